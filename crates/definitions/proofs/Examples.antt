@@ -1,0 +1,133 @@
+-- Document 01's examples under table P, given by the definitions. Each list is one statement, and each statement is by computation:
+-- both sides compute to the same lists.
+use Prim.Native.Nat.{ℕ}
+use mathlib.Core.Path.{_≡_, refl}
+use mathlib.Core.List.{List, [], _∷_, map}
+use mathlib.Core.Bool.{Bool, true, false}
+use lib.ListN.{replicate, getD, length}
+use Rattle.definitions.specs.Basic.{Answer, answer, Used, isNone, among, concat, refusal, over, overAt, content, tooLong, bit, receivable}
+use Rattle.definitions.specs.Octets.{run, number, numberAt}
+use Rattle.definitions.specs.Rows.{rowOf, rowsF, rowsOf, ieis, formOf, form, goodIei, allGood, fresh, goodRow, firstBadFrom, firstBad, ieiOf, placeFrom, placeOf, rowAt, firstIei}
+use Rattle.definitions.specs.Tables.{row, tableP, startOf}
+use Rattle.definitions.specs.Length.{header, lengthBy, stated, within, whole, unknownForm, unknownLength, required}
+use Rattle.definitions.specs.Elements.{ieiAt, including, meet, takenBy, taken, judged, octetsOf, known, stranger, strangerStep, placeStep, step, before, stepThen, partedF, parted, elementsOf, isAccepted, isAt}
+use Rattle.definitions.specs.Logs.{lebF, leb128, keptEntry, keptOf, continued, countF, allowed, countAt, put, keptThen, keptListF, keptList, orEmpty, placedOf, orderEntry, entriesOf, plainFrom, orderOf, orderListF, orderList}
+use Rattle.definitions.specs.Reading.{Read, Lent, received, placeRow, placeRowsFrom, placeRows, cutOf, readingChecks, readElements, reading}
+use Rattle.definitions.specs.Values.{Edited, valueAt, present, sourceOf, octetsAt, goodValue, firstFrom, badRows, fits, unfitAt, valuesTooLong, placeChecks, setting}
+use Rattle.definitions.specs.Writing.{Wrote, encoded, elementAt, logged, addedFrom, below, notBelow, firsts, walked, written, unfit, octetsIn, octetsFor, writingChecks, writing}
+use Rattle.definitions.specs.Listing.{ascii, decimalF, decimal, hexDigit, hex, word, heading, line, lines, listed, listing}
+
+-- ---- reading
+
+-- a part and the option; what reading it leaves: number and values, and the octets used of the order log and the kept log
+pub record Example : Type 0 where
+  pub part : List ℕ
+  pub option : Bool
+  pub said : Answer
+  pub order : List ℕ
+  pub kept : List ℕ
+
+abbrev example : List ℕ → Bool → Answer → List ℕ → List ℕ → Example
+example part option said order kept = record { part = part; option = option; said = said; order = order; kept = kept }
+
+-- the starred lines, in their order
+unfoldable pub starred : List Example
+starred =
+    example ([]) false (answer 0 (0 ∷ 0 ∷ [])) ([]) ([])
+    ∷ example (0xc1 ∷ 0x10 ∷ 0x01 ∷ 0xaa ∷ []) false (answer 0 (0 ∷ 0 ∷ [])) ([]) ([])
+    ∷ example (0x10 ∷ 0x00 ∷ 0x10 ∷ 0x01 ∷ 0xaa ∷ []) false (answer 0 (7 ∷ 2 ∷ [])) (0x02 ∷ 0x03 ∷ []) (0x02 ∷ 0x10 ∷ 0x00 ∷ 0x03 ∷ 0x10 ∷ 0x01 ∷ 0xaa ∷ [])
+    ∷ example (0x31 ∷ 0x01 ∷ 0x02 ∷ []) false (answer 0 (0 ∷ 2 ∷ [])) (0x00 ∷ 0x31 ∷ []) ([])
+    ∷ example (0x52 ∷ 0x07 ∷ 0x08 ∷ 0xc1 ∷ []) false (answer 0 (2 ∷ 3 ∷ [])) (0x00 ∷ 0x52 ∷ 0x04 ∷ []) (0x01 ∷ 0xc1 ∷ [])
+    ∷ example (0x52 ∷ 0x07 ∷ 0x08 ∷ 0xc1 ∷ []) true (answer 0 (0 ∷ 4 ∷ [])) (0x00 ∷ 0x52 ∷ 0x00 ∷ 0xc0 ∷ []) ([])
+    ∷ example (0x52 ∷ 0x07 ∷ 0x08 ∷ 0xc3 ∷ []) true (answer 0 (2 ∷ 3 ∷ [])) (0x00 ∷ 0x52 ∷ 0x04 ∷ []) (0x01 ∷ 0xc3 ∷ [])
+    ∷ example (0xc1 ∷ 0x90 ∷ 0x10 ∷ 0x01 ∷ 0xaa ∷ []) false (answer 0 (2 ∷ 5 ∷ [])) (0x00 ∷ 0xc0 ∷ 0x01 ∷ 0x00 ∷ 0x10 ∷ []) (0x01 ∷ 0x90 ∷ [])
+    ∷ example (0x77 ∷ 0x00 ∷ 0x05 ∷ 0xaa ∷ 0xc1 ∷ []) false (answer 0 (6 ∷ 1 ∷ [])) (0x02 ∷ []) (0x05 ∷ 0x77 ∷ 0x00 ∷ 0x05 ∷ 0xaa ∷ 0xc1 ∷ [])
+    ∷ example (0x05 ∷ 0x02 ∷ 0xaa ∷ []) false (answer 1 (0 ∷ 5 ∷ 3 ∷ [])) ([]) ([])
+    ∷ example (0x7e ∷ 0x00 ∷ []) false (answer 1 (0 ∷ 126 ∷ 2 ∷ [])) ([]) ([])
+    ∷ []
+
+-- beyond document 01: an unknown element of one octet is kept as it came, with its low four bits; the three unstarred ones
+unfoldable pub unstarred : List Example
+unstarred =
+    example (0x95 ∷ []) false (answer 0 (2 ∷ 1 ∷ [])) (0x01 ∷ []) (0x01 ∷ 0x95 ∷ [])
+    ∷ example (0x6f ∷ 0x00 ∷ []) false (answer 0 (3 ∷ 1 ∷ [])) (0x01 ∷ []) (0x02 ∷ 0x6f ∷ 0x00 ∷ [])
+    ∷ example (0x70 ∷ 0x00 ∷ 0x00 ∷ []) false (answer 0 (4 ∷ 1 ∷ [])) (0x01 ∷ []) (0x03 ∷ 0x70 ∷ 0x00 ∷ 0x00 ∷ [])
+    ∷ example (0x05 ∷ 0x01 ∷ 0xaa ∷ []) false (answer 0 (4 ∷ 1 ∷ [])) (0x01 ∷ []) (0x03 ∷ 0x05 ∷ 0x01 ∷ 0xaa ∷ [])
+    ∷ []
+
+-- what is lent: fifteen numbers for the five places, and two logs of sixteen octets, of some content
+abbrev lentRows : List ℕ
+lentRows = replicate 15 9
+
+abbrev lentLog : List ℕ
+lentLog = replicate 16 9
+
+-- what the definitions say, and what the example says: the answer and both lent logs
+pub read : Example → List (List ℕ)
+read e =
+    let r : Read = reading tableP startOf (e .option) (e .part) (record { rows = lentRows; kept = lentLog; order = lentLog }) in
+    (r .said .number ∷ []) ∷ r .said .values ∷ r .order ∷ r .kept ∷ []
+
+pub leaves : Example → List (List ℕ)
+leaves e = (e .said .number ∷ []) ∷ e .said .values ∷ over (e .order) lentLog ∷ over (e .kept) lentLog ∷ []
+
+pub starred-hold : map read starred ≡ map leaves starred
+unfolding starred read leaves concat refusal over bit receivable among run number numberAt rowOf rowsF rowsOf ieis formOf form goodIei allGood fresh goodRow firstBadFrom firstBad ieiOf placeFrom placeOf rowAt firstIei row tableP header lengthBy stated within whole unknownForm unknownLength required ieiAt including meet takenBy taken judged octetsOf known stranger strangerStep placeStep step before stepThen partedF parted elementsOf isAccepted isAt received placeRow placeRowsFrom placeRows cutOf readingChecks readElements reading lebF leb128 keptEntry keptOf placedOf orderEntry entriesOf plainFrom orderOf
+starred-hold = refl
+
+pub unstarred-hold : map read unstarred ≡ map leaves unstarred
+unfolding unstarred read leaves concat refusal over bit receivable among run number numberAt rowOf rowsF rowsOf ieis formOf form goodIei allGood fresh goodRow firstBadFrom firstBad ieiOf placeFrom placeOf rowAt firstIei row tableP header lengthBy stated within whole unknownForm unknownLength required ieiAt including meet takenBy taken judged octetsOf known stranger strangerStep placeStep step before stepThen partedF parted elementsOf isAccepted isAt received placeRow placeRowsFrom placeRows cutOf readingChecks readElements reading lebF leb128 keptEntry keptOf placedOf orderEntry entriesOf plainFrom orderOf
+unstarred-hold = refl
+
+-- ---- writing
+
+-- a part, a place, its new value, and what is then written
+pub record Edit : Type 0 where
+  pub part : List ℕ
+  pub place : ℕ
+  pub new : List ℕ
+  pub written′ : List ℕ
+
+abbrev edit : List ℕ → ℕ → List ℕ → List ℕ → Edit
+edit part place new out = record { part = part; place = place; new = new; written′ = out }
+
+unfoldable pub edits : List Edit
+edits =
+    edit (0x10 ∷ 0x01 ∷ 0xaa ∷ 0x77 ∷ 0x00 ∷ 0x00 ∷ []) 3 (0x02 ∷ []) (0x10 ∷ 0x01 ∷ 0xaa ∷ 0x2f ∷ 0x01 ∷ 0x02 ∷ 0x77 ∷ 0x00 ∷ 0x00 ∷ [])
+    ∷ edit (0x31 ∷ 0x01 ∷ 0x02 ∷ []) 3 (0x01 ∷ []) (0x31 ∷ 0x01 ∷ 0x01 ∷ [])
+    ∷ []
+
+abbrev lentOutput : List ℕ
+lentOutput = replicate 12 7
+
+-- the part is read, the value set, the message written
+pub wrote : Edit → List (List ℕ)
+wrote e =
+    let r : Read = reading tableP startOf false (e .part) (record { rows = lentRows; kept = lentLog; order = lentLog }) in
+    let s : Edited = setting tableP (r .rows) (e .part) (record { buffer = lentLog; used = 0 }) (e .place) (e .new) in
+    let w : Wrote =
+        writing tableP (s .rows) (e .part) (record { buffer = s .set; used = getD (s .said .values) 0 0 })
+        (record { buffer = r .order; used = getD (r .said .values) 1 0 }) (record { buffer = r .kept; used = getD (r .said .values) 0 0 }) lentOutput in
+    (w .said .number ∷ []) ∷ w .said .values ∷ w .output ∷ []
+
+pub writes : Edit → List (List ℕ)
+writes e = (0 ∷ []) ∷ (length (e .written′) ∷ []) ∷ over (e .written′) lentOutput ∷ []
+
+pub edits-hold : map wrote edits ≡ map writes edits
+unfolding edits wrote writes isNone among concat refusal over overAt content tooLong bit receivable run number numberAt rowOf rowsF rowsOf ieis formOf form goodIei allGood fresh goodRow firstBadFrom firstBad ieiOf placeFrom placeOf rowAt firstIei row tableP header lengthBy stated within whole unknownForm unknownLength required ieiAt including meet takenBy taken judged octetsOf known stranger strangerStep placeStep step before stepThen partedF parted elementsOf isAccepted isAt received placeRow placeRowsFrom placeRows cutOf readingChecks readElements reading lebF leb128 keptEntry keptOf continued countF allowed countAt put keptThen keptListF keptList orEmpty placedOf orderEntry entriesOf plainFrom orderOf orderListF orderList valueAt present sourceOf octetsAt goodValue firstFrom badRows fits unfitAt valuesTooLong placeChecks setting encoded elementAt logged addedFrom below notBelow firsts walked written unfit octetsIn octetsFor writingChecks writing
+edits-hold = refl
+
+-- the counts 127 and 128
+pub counts-hold : map leb128 (127 ∷ 128 ∷ []) ≡ (0x7f ∷ []) ∷ (0x80 ∷ 0x01 ∷ []) ∷ []
+unfolding leb128 lebF
+counts-hold = refl
+
+-- ---- listing
+
+-- what nas-list prints for c1 90 10 00 10 01 aa, and for 05 02 aa
+pub listings-hold : map listing ((0xc1 ∷ 0x90 ∷ 0x10 ∷ 0x00 ∷ 0x10 ∷ 0x01 ∷ 0xaa ∷ []) ∷ (0x05 ∷ 0x02 ∷ 0xaa ∷ []) ∷ [])
+    ≡ ascii "at len iei verdict\n0 1 c0 accepted\n1 1 90 unknown\n2 2 10 malformed\n4 3 10 repeated\nend 7\n"
+      ∷ ascii "at len iei verdict\ncut at 0 iei 05 octets 3\n"
+      ∷ []
+unfolding concat bit receivable among run number numberAt rowOf rowsF rowsOf ieis formOf form goodIei allGood fresh goodRow firstBadFrom firstBad ieiOf placeFrom placeOf rowAt firstIei row tableP header lengthBy stated within whole unknownForm unknownLength required ieiAt including meet takenBy taken judged octetsOf known stranger strangerStep placeStep step before stepThen partedF parted elementsOf isAccepted isAt ascii decimalF decimal hexDigit hex word heading line lines listed listing
+listings-hold = refl

@@ -1,0 +1,1 @@
+// No code: this crate is the definitions that every promise cites, in specs/.
