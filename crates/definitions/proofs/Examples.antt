@@ -106,8 +106,8 @@ wrote e =
     let r : Read = reading tableP startOf false (e .part) (record { rows = lentRows; kept = lentLog; order = lentLog }) in
     let s : Edited = setting tableP (r .rows) (e .part) (record { buffer = lentLog; used = 0 }) (e .place) (e .new) in
     let w : Wrote =
-        writing tableP (s .rows) (e .part) (record { buffer = s .set; used = getD (s .said .values) 0 0 })
-        (record { buffer = r .order; used = getD (r .said .values) 1 0 }) (record { buffer = r .kept; used = getD (r .said .values) 0 0 }) lentOutput in
+    writing tableP (s .rows) (e .part) (record { buffer = s .set; used = getD (s .said .values) 0 0 })
+    (record { buffer = r .order; used = getD (r .said .values) 1 0 }) (record { buffer = r .kept; used = getD (r .said .values) 0 0 }) lentOutput in
     (w .said .number ∷ []) ∷ w .said .values ∷ w .output ∷ []
 
 pub writes : Edit → List (List ℕ)
@@ -127,7 +127,7 @@ counts-hold = refl
 -- what nas-list prints for c1 90 10 00 10 01 aa, and for 05 02 aa
 pub listings-hold : map listing ((0xc1 ∷ 0x90 ∷ 0x10 ∷ 0x00 ∷ 0x10 ∷ 0x01 ∷ 0xaa ∷ []) ∷ (0x05 ∷ 0x02 ∷ 0xaa ∷ []) ∷ [])
     ≡ ascii "at len iei verdict\n0 1 c0 accepted\n1 1 90 unknown\n2 2 10 malformed\n4 3 10 repeated\nend 7\n"
-      ∷ ascii "at len iei verdict\ncut at 0 iei 05 octets 3\n"
-      ∷ []
+    ∷ ascii "at len iei verdict\ncut at 0 iei 05 octets 3\n"
+    ∷ []
 unfolding concat bit receivable among run number numberAt rowOf rowsF rowsOf ieis formOf form goodIei allGood fresh goodRow firstBadFrom firstBad ieiOf placeFrom placeOf rowAt firstIei row tableP header lengthBy stated within whole unknownForm unknownLength required ieiAt including meet takenBy taken judged octetsOf known stranger strangerStep placeStep step before stepThen partedF parted elementsOf isAccepted isAt ascii decimalF decimal hexDigit hex word heading line lines listed listing
 listings-hold = refl

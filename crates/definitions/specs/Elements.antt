@@ -16,6 +16,13 @@ pub data Verdict : Type 0 where
   repeated : Verdict
   outOfSequence : Verdict
 
+unfoldable pub isAccepted : Verdict → Bool
+isAccepted accepted = true
+isAccepted unknown = false
+isAccepted malformed = false
+isAccepted repeated = false
+isAccepted outOfSequence = false
+
 -- an element: where it starts, its octets, its place if it has one, its verdict
 pub record Element : Type 0 where
   pub at : ℕ
@@ -129,13 +136,6 @@ parted t start option s = partedF t start option (length s) nothingMet 0 s
 unfoldable pub elementsOf : Parted → List Element
 elementsOf (elements es) = es
 elementsOf (cutShort a x n) = []
-
-unfoldable pub isAccepted : Verdict → Bool
-isAccepted accepted = true
-isAccepted unknown = false
-isAccepted malformed = false
-isAccepted repeated = false
-isAccepted outOfSequence = false
 
 -- whether a place is an element's
 unfoldable pub isAt : ℕ → Element → Bool

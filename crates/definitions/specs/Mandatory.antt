@@ -205,7 +205,7 @@ mandatoryWriting table rows received set output =
     let o : Octets = record { received = received; set = content set } in
     let absent : Option ℕ = firstFrom (λ k. not (present (valueAt rows k))) 0 (length t) in
     let misfit : Option ℕ =
-        firstFrom (λ k. not (fitsMandatory (mandatoryForm (mandatoryRowAt t k)) (valueAt rows k .source) (octetsAt o (valueAt rows k)))) 0 (length t) in
+    firstFrom (λ k. not (fitsMandatory (mandatoryForm (mandatoryRowAt t k)) (valueAt rows k .source) (octetsAt o (valueAt rows k)))) 0 (length t) in
     let w : List ℕ = rowsWritten o rows 0 0 t in
     unless
     (refusal
