@@ -1,2 +1,3 @@
 -- The examples of document 01, computed by the definitions, and the laws of the definitions that other crates cite.
 pub mod Examples
+pub mod Octets
