@@ -1,3 +1,4 @@
 -- The examples of document 01, computed by the definitions, and the laws of the definitions that other crates cite.
 pub mod Examples
 pub mod Octets
+pub mod Length

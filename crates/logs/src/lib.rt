@@ -1,0 +1,2 @@
+// What reading keeps of elements that no row took, and the rule by which an unknown element is measured.
+pub mod length;

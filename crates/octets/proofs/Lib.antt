@@ -1,0 +1,2 @@
+-- Laws of the answers that callers cite.
+pub mod Laws
