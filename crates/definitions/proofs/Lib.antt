@@ -1,4 +1,6 @@
 -- The examples of document 01, computed by the definitions, and the laws of the definitions that other crates cite.
 pub mod Examples
+pub mod Lists
 pub mod Octets
 pub mod Length
+pub mod Logs

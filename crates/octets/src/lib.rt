@@ -1,6 +1,8 @@
 // Reading octets from a lent slice, with a cursor by value. Past the end each answer is Short, and nothing is read.
 ghost use mathlib.Core.Path.{_≡_};
 ghost use Prim.Native.Nat.{_+_, _*_};
+ghost use lib.ListN.{length, take};
+ghost use Rattle.definitions.specs.Basic.{over};
 ghost use Rattle.definitions.specs.Octets.{remaining, run, numberAt};
 ghost use Rattle.octets.specs.Answers.{runOf, movedOf, octetOf, pairOf, fourOf, octetsOf};
 
@@ -144,5 +146,19 @@ impl Cursor {
         let high = big16(s[at], s[at + 1]);
         let low = big16(s[at + 2], s[at + 3]);
         Four::Is(big32(high, low), Cursor { at: at + 4 })
+    }
+}
+
+// Octets into the front of a lent buffer, as many as there is room for; those behind are as they were.
+pub fn put_slice(out: &mut [u8], octets: &[u8])
+    ensures { λ r. ⌜ now (out .exit) ≡ over (take (length (now (out .entry))) (now (octets .entry))) (now (out .entry)) ⌝ }
+{
+    let mut i = 0;
+    while i < octets.len() {
+        if i >= out.len() {
+            return;
+        }
+        out[i] = octets[i];
+        i += 1;
     }
 }

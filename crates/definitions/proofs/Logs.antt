@@ -1,0 +1,153 @@
+-- Laws of the two logs: a count at the front, octet by octet; a log by its first entry, whatever count the recursion has.
+-- A log's recursion is met once, by two counts that are both enough; everything else is a step at the front.
+use Prim.Native.Nat.{ℕ, zero, suc, _+_, _*_, _-_, _/_, _%_, _≤_, _<_}
+use native.Mathlib.Omega.{arith}
+use mathlib.Core.Path.{_≡_, refl, ap, sym, _∙_}
+use mathlib.Core.List.{List, [], _∷_, _++_}
+use mathlib.Core.Bool.{Bool, true, false, _&&_}
+use mathlib.Core.Option.{Option, none, some}
+use borrow.Author.Tests.{le-leb, lt-leb, le-ltb, lt-ltb, eq-eqb, ne-eqb, leb-true, leb-false, ltb-true, ltb-false, eqb-true, eqb-false}
+use lib.ListN.{length, getD, take, drop, length-take, length-drop, length-append}
+use lib.Seq.{drop-cons, drop-nil}
+use lib.Dec.{leb, ltb, eqb}
+use Rattle.definitions.specs.Basic.{pick, mostOctets}
+use Rattle.definitions.specs.Logs.{lebF, leb128, keptEntry, Count, continued, countF, allowed, countAt, put, keptThen, keptListF, keptList, orEmpty, keptAt, Placed, knownIei, notKnown, ignored, byForm, again, late, orderEntry, orderListF, orderList, entryAt}
+
+-- ---- a count at the front
+
+module _ (f : ℕ) where
+  pub count-end : (s : List ℕ) → length s ≡ 0 → countF (suc f) s ≡ none
+  unfolding countF
+  count-end [] h = refl
+  count-end (x ∷ xs) h = absurd (omega arith)
+
+  pub count-last : (s : List ℕ) → 0 < length s → getD s 0 0 < 128 → countF (suc f) s ≡ some (record { value = getD s 0 0; took = 1 })
+  unfolding countF
+  count-last [] h g = absurd (omega arith)
+  count-last (x ∷ xs) h g = rw (lt-ltb x 128 g)
+
+  pub count-more : (s : List ℕ) → 0 < length s → 128 ≤ getD s 0 0 → countF (suc f) s ≡ continued (getD s 0 0) (countF f (drop 1 s))
+  unfolding countF
+  count-more [] h g = absurd (omega arith)
+  count-more (x ∷ xs) h g = rw (le-ltb x 128 g)
+
+-- the fact that a count took octets in shortest form: as many as its value takes
+abbrev pub Shortest : ℕ → Option Count → Type 0
+Shortest f none = Unit
+Shortest f (some c) = (length (lebF f (c .value)) ≡ c .took) × (1 ≤ c .took)
+
+shortest-continued : (f a : ℕ) (o : Option Count) → Shortest f o → Shortest (suc f) (continued a o)
+unfolding continued lebF
+shortest-continued f a none p = tt
+shortest-continued f a (some c) p = by (eqb (c .value) 0) refl
+  where
+    v : ℕ
+    v = a % 128 + 128 * c .value
+    longer : (1 ≤ c .value) → length (lebF (suc f) v) ≡ suc (c .took)
+    longer h =
+        let q : v / 128 ≡ c .value = omega arith in
+        rw (le-ltb v 128 (omega arith), q) (ap suc (p .0))
+    by : (b : Bool) → eqb (c .value) 0 ≡ b → Shortest (suc f) (pick b none (some (record { value = v; took = suc (c .took) })))
+    by true e = tt
+    by false e = (longer (omega (arith, eqb-false (c .value) 0 e)), omega arith)
+
+shortest-pick : (f a : ℕ) (o : Option Count) → Shortest f o → Shortest f (pick (ltb a 128) (some (record { value = a; took = 1 })) o)
+unfolding lebF
+shortest-pick f a o p = by (ltb a 128) refl
+  where
+    one : (f : ℕ) → a < 128 → length (lebF f a) ≡ 1
+    one zero h = refl
+    one (suc f) h = rw (lt-ltb a 128 h)
+    by : (b : Bool) → ltb a 128 ≡ b → Shortest f (pick b (some (record { value = a; took = 1 })) o)
+    by true e = (one f (ltb-true a 128 e), omega arith)
+    by false e = p
+
+pub shortest : (f : ℕ) (s : List ℕ) → Shortest f (countF (suc f) s)
+unfolding countF continued
+shortest f [] = tt
+shortest zero (a ∷ s) = shortest-pick zero a none tt
+shortest (suc f) (a ∷ s) = shortest-pick (suc f) a (continued a (countF (suc f) s)) (shortest-continued f a (countF (suc f) s) (shortest f s))
+
+-- a count that is allowed: from 1 to 65,535, and as many octets as its value takes
+abbrev pub Allowed : Option Count → Type 0
+Allowed none = Unit
+Allowed (some c) = (1 ≤ c .value) × (c .value ≤ mostOctets) × (length (leb128 (c .value)) ≡ c .took) × (1 ≤ c .took)
+
+pub count-allowed : (s : List ℕ) → Allowed (countAt s)
+unfolding countAt allowed leb128
+count-allowed s = by (countF 3 s) (shortest 2 s)
+  where
+    inside : (c : Count) → Shortest 2 (some c) → (b d : Bool) → leb 1 (c .value) ≡ b → leb (c .value) mostOctets ≡ d → Allowed (pick (b && d) (some c) none)
+    inside c p true true e g = (leb-true 1 (c .value) e, leb-true (c .value) mostOctets g, p .0, p .1)
+    inside c p true false e g = tt
+    inside c p false d e g = tt
+    by : (o : Option Count) → Shortest 2 o → Allowed (allowed o)
+    by none p = tt
+    by (some c) p = inside c p (leb 1 (c .value)) (leb (c .value) mostOctets) refl refl
+
+pub allowed-is : (c : Count) → 1 ≤ c .value → c .value ≤ mostOctets → allowed (some c) ≡ some c
+unfolding allowed
+allowed-is c h g = rw (le-leb 1 (c .value) h, le-leb (c .value) mostOctets g)
+
+pub allowed-not : (c : Count) → mostOctets < c .value → allowed (some c) ≡ none
+unfolding allowed
+allowed-not c h = rw (le-leb 1 (c .value) (omega arith), lt-leb (c .value) mostOctets h)
+
+-- ---- a kept log by its first entry
+
+-- the entry at the front: its count, where the log has the element behind it
+unfoldable pub entryOf : List ℕ → Option Count → Option Count
+entryOf s none = none
+entryOf s (some c) = pick (leb (c .value) (length (drop (c .took) s))) (some c) none
+
+-- what a log holds by its entry at the front
+unfoldable pub keptBy : List ℕ → (List ℕ → Option (List (List ℕ))) → Option Count → Option (List (List ℕ))
+keptBy s rest none = none
+keptBy s rest (some c) = put (take (c .value) (drop (c .took) s)) (rest (drop (c .value) (drop (c .took) s)))
+
+kept-entry : (s : List ℕ) (rest : List ℕ → Option (List (List ℕ))) (o : Option Count) → keptThen s rest o ≡ keptBy s rest (entryOf s o)
+unfolding keptThen keptBy entryOf
+kept-entry s rest none = refl
+kept-entry s rest (some c) = by (leb (c .value) (length (drop (c .took) s)))
+  where
+    here : Option (List (List ℕ))
+    here = put (take (c .value) (drop (c .took) s)) (rest (drop (c .value) (drop (c .took) s)))
+    by : (b : Bool) → pick b here none ≡ keptBy s rest (pick b (some c) none)
+    by true = refl
+    by false = refl
+
+-- the rest matters only at what is shorter
+kept-rest : (s : List ℕ) (rest rest′ : List ℕ → Option (List (List ℕ))) (o : Option Count) → Allowed o → 0 < length s
+    → ((t : List ℕ) → length t < length s → rest t ≡ rest′ t) → keptThen s rest o ≡ keptThen s rest′ o
+unfolding keptThen
+kept-rest s rest rest′ none p h e = refl
+kept-rest s rest rest′ (some c) p h e =
+    let t : List ℕ = drop (c .value) (drop (c .took) s) in
+    let l : length t < length s = simp (length-drop) (omega arith) in
+    let q : rest t ≡ rest′ t = e t l in
+    ap (λ (r : Option (List (List ℕ))). pick (leb (c .value) (length (drop (c .took) s))) (put (take (c .value) (drop (c .took) s)) r) none) q
+
+kept-fuel : (f g : ℕ) (s : List ℕ) → length s ≤ f → length s ≤ g → keptListF f s ≡ keptListF g s
+unfolding keptListF
+kept-fuel zero zero [] h k = refl
+kept-fuel zero (suc g) [] h k = refl
+kept-fuel (suc f) zero [] h k = refl
+kept-fuel (suc f) (suc g) [] h k = refl
+kept-fuel zero g (x ∷ xs) h k = absurd (omega arith)
+kept-fuel (suc f) zero (x ∷ xs) h k = absurd (omega arith)
+kept-fuel (suc f) (suc g) (x ∷ xs) h k =
+    kept-rest (x ∷ xs) (keptListF f) (keptListF g) (countAt (x ∷ xs)) (count-allowed (x ∷ xs)) (omega arith)
+    (λ t l. kept-fuel f g t (omega arith) (omega arith))
+
+pub kept-nil : (s : List ℕ) → length s ≡ 0 → keptList s ≡ some []
+unfolding keptList keptListF
+kept-nil [] h = refl
+kept-nil (x ∷ xs) h = absurd (omega arith)
+
+pub kept-front : (s : List ℕ) → 0 < length s → keptList s ≡ keptBy s keptList (entryOf s (countAt s))
+unfolding keptList keptListF
+kept-front [] h = absurd (omega arith)
+kept-front (x ∷ xs) h =
+    kept-rest (x ∷ xs) (keptListF (length xs)) keptList (countAt (x ∷ xs)) (count-allowed (x ∷ xs)) h
+    (λ t l. kept-fuel (length xs) (length t) t (omega arith) (omega arith))
+    ∙ kept-entry (x ∷ xs) keptList (countAt (x ∷ xs))

@@ -1,0 +1,137 @@
+// The kept log: each element that no row took as its octet count in unsigned LEB128, then its octets. A log is a lent buffer
+// and how many of its octets are used.
+use octets::put_slice;
+use octets::Cursor;
+
+ghost use mathlib.Core.Path.{_≡_};
+ghost use mathlib.Core.List.{_++_, _∷_};
+ghost use Prim.Native.Nat.{_+_, _*_, _%_, _≤_, _<_};
+ghost use lib.ListN.{length, take, drop};
+ghost use Rattle.definitions.specs.Basic.{over};
+ghost use Rattle.definitions.specs.Logs.{leb128, keptEntry, countAt, allowed, keptList, keptPush, keptCount, keptGet, keptClear};
+ghost use Rattle.definitions.proofs.Logs.{entryOf};
+ghost use Rattle.logs.specs.Kept.{countOf, countFrom, stepOf, toldBy, tell, pushedAs, countedAs, gotAs, usedOf, partOf};
+
+// The most octets of an element, and of a log that is used.
+const MOST_OCTETS: usize = 65_535;
+const MOST_LOG: usize = 131_070;
+
+// What pushing answers: the octets then used, or a refusal.
+pub enum Pushed {
+    Used(usize),
+    TooLong,
+    Malformed,
+    NoRoom,
+}
+
+// How many elements a log holds.
+pub enum Counted {
+    Elements(usize),
+    TooLong,
+    Malformed,
+}
+
+// Where an element stands in a log, IEI first: its start and its length; or none, past the last.
+pub enum Got {
+    Element(usize, usize),
+    PastLast,
+    TooLong,
+    Malformed,
+}
+
+// A count at the front: its value, and how many octets it takes.
+pub enum Count {
+    Is(usize, usize),
+    Not,
+}
+
+// Where a walk over a log is: its position, the elements passed, and start and length of the wanted one, 0 while not met.
+pub struct Walk {
+    pub at: usize,
+    pub count: usize,
+    pub start: usize,
+    pub len: usize,
+}
+
+pub enum Step {
+    To(Walk),
+    Malformed,
+}
+
+pub enum Walked {
+    Log(usize, usize, usize),
+    Malformed,
+}
+
+// A count that is not malformed: from 1 to 65,535.
+fn allowed_count(value: usize, took: usize) -> Count
+    ensures { λ r. ⌜ r ≡ countOf (allowed (countFrom value took)) ⌝ }
+{
+    if value == 0 {
+        return Count::Not;
+    }
+    if value > MOST_OCTETS {
+        return Count::Not;
+    }
+    Count::Is(value, took)
+}
+
+// Seven bits of an octet in front of more.
+fn bits(octet: u8, more: usize) -> usize
+    requires { ⌜ more < 65536 ⌝ }
+    ensures { λ r. ⌜ r ≡ octet % 128 + 128 * more ⌝ }
+{
+    ((octet % 128) as usize) + 128 * more
+}
+
+// The count at the front of a log.
+fn count_at(s: &[u8]) -> Count
+    ensures { λ r. ⌜ r ≡ countOf (countAt (now (s .entry))) ⌝ }
+{
+    if s.len() == 0 {
+        return Count::Not;
+    }
+    let a = s[0];
+    if a < 128 {
+        return allowed_count(a as usize, 1);
+    }
+    if s.len() == 1 {
+        return Count::Not;
+    }
+    let b = s[1];
+    if b == 0 {
+        return Count::Not;
+    }
+    if b < 128 {
+        return allowed_count(bits(a, b as usize), 2);
+    }
+    if s.len() == 2 {
+        return Count::Not;
+    }
+    let c = s[2];
+    if c == 0 {
+        return Count::Not;
+    }
+    if c >= 128 {
+        return Count::Not;
+    }
+    allowed_count(bits(a, bits(b, c as usize)), 3)
+}
+
+// The count at the front, where the log has the element behind it.
+fn entry_at(s: &[u8]) -> Count
+    ensures { λ r. ⌜ r ≡ countOf (entryOf (now (s .entry)) (countAt (now (s .entry)))) ⌝ }
+{
+    match count_at(s) {
+        Count::Is(value, took) => {
+            if took > s.len() {
+                return Count::Not;
+            }
+            if value > s.len() - took {
+                return Count::Not;
+            }
+            Count::Is(value, took)
+        }
+        Count::Not => Count::Not,
+    }
+}
