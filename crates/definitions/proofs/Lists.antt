@@ -32,3 +32,7 @@ over-append a b d =
 pub length-over : (s d : List ℕ) → length s ≤ length d → length (over s d) ≡ length d
 unfolding over
 length-over s d h = simp (length-append, length-drop) (omega arith)
+
+-- a part to the end is what is left
+pub to-end : (n : ℕ) (s : List ℕ) → take (length s - n) (drop n s) ≡ drop n s
+to-end n s = take-all (length s - n) (drop n s) (simp length-drop (omega arith))

@@ -1,3 +1,4 @@
 -- Laws of the answers that proofs cite.
 pub mod Laws
 pub mod Counts
+pub mod Walks

@@ -75,3 +75,7 @@ toldBy Walked.Malformed = none
 unfoldable pub tell : Walk → ℕ → Option (List (List ℕ)) → Option (List ℕ)
 tell w want none = none
 tell w want (some es) = some ((w .count + length es) ∷ pick (ltb want (w .count)) (foundBy (w .start) (w .len)) (keptAt (w .at) (want - w .count) es))
+
+-- a walk that begins
+abbrev pub startWalk : Walk
+startWalk = record { at = 0; count = 0; start = 0; len = 0 }

@@ -10,7 +10,7 @@ ghost use lib.ListN.{length, take, drop};
 ghost use Rattle.definitions.specs.Basic.{over};
 ghost use Rattle.definitions.specs.Logs.{leb128, keptEntry, countAt, allowed, keptList, keptPush, keptCount, keptGet, keptClear};
 ghost use Rattle.definitions.proofs.Logs.{entryOf};
-ghost use Rattle.logs.specs.Kept.{countOf, countFrom, stepOf, toldBy, tell, pushedAs, countedAs, gotAs, usedOf, partOf};
+ghost use Rattle.logs.specs.Kept.{countOf, countFrom, stepOf, toldBy, tell, startWalk, pushedAs, countedAs, gotAs, usedOf, partOf};
 
 // The most octets of an element, and of a log that is used.
 const MOST_OCTETS: usize = 65_535;
@@ -134,4 +134,55 @@ fn entry_at(s: &[u8]) -> Count
         }
         Count::Not => Count::Not,
     }
+}
+
+// Past the entry at a position; the one wanted is remembered.
+fn kept_step(content: &[u8], w: Walk, want: usize) -> Step
+    requires { ⌜ (w .at < length (now content)) × (w .count ≤ w .at) ⌝ }
+    ensures { λ r. ⌜ r ≡ stepOf w want (entryOf (drop (w .at) (now (content .entry))) (countAt (drop (w .at) (now (content .entry))))) ⌝ }
+{
+    let at = w.at;
+    let count = w.count;
+    match entry_at(&content[at..]) {
+        Count::Is(value, took) => {
+            if count == want {
+                return Step::To(Walk {
+                    at: at + (took + value),
+                    count: count + 1,
+                    start: at + took,
+                    len: value,
+                });
+            }
+            Step::To(Walk {
+                at: at + (took + value),
+                count: count + 1,
+                start: w.start,
+                len: w.len,
+            })
+        }
+        Count::Not => Step::Malformed,
+    }
+}
+
+// The whole log once: how many elements it holds, and where the wanted one stands; its length is 0 past the last.
+fn walk_kept(content: &[u8], want: usize) -> Walked
+    ensures { λ r. ⌜ toldBy r ≡ tell startWalk want (keptList (now (content .entry))) ⌝ }
+{
+    let mut w = Walk {
+        at: 0,
+        count: 0,
+        start: 0,
+        len: 0,
+    };
+    while w.at < content.len() {
+        match kept_step(content, w, want) {
+            Step::To(next) => {
+                w = next;
+            }
+            Step::Malformed => {
+                return Walked::Malformed;
+            }
+        }
+    }
+    Walked::Log(w.count, w.start, w.len)
 }
