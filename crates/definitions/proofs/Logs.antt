@@ -4,14 +4,14 @@ use Prim.Native.Nat.{ℕ, zero, suc, _+_, _*_, _-_, _/_, _%_, _≤_, _<_}
 use native.Mathlib.Omega.{arith}
 use mathlib.Core.Path.{_≡_, refl, ap, sym, _∙_}
 use mathlib.Core.List.{List, [], _∷_, _++_}
-use mathlib.Core.Bool.{Bool, true, false, _&&_}
+use mathlib.Core.Bool.{Bool, true, false, _&&_, _||_}
 use mathlib.Core.Option.{Option, none, some}
 use borrow.Author.Tests.{le-leb, lt-leb, le-ltb, lt-ltb, eq-eqb, ne-eqb, leb-true, leb-false, ltb-true, ltb-false, eqb-true, eqb-false}
 use lib.ListN.{length, getD, take, drop, length-take, length-drop, length-append}
 use lib.Seq.{drop-cons, drop-nil}
 use lib.Dec.{leb, ltb, eqb}
-use Rattle.definitions.specs.Basic.{pick, mostOctets}
-use Rattle.definitions.specs.Logs.{lebF, leb128, keptEntry, Count, continued, countF, allowed, countAt, put, keptThen, keptListF, keptList, orEmpty, keptAt, Placed, knownIei, notKnown, ignored, byForm, again, late, orderEntry, orderListF, orderList, entryAt}
+use Rattle.definitions.specs.Basic.{pick, Answer, answer, refusal, Used, tooLong, mostOctets, mostLog, overAt}
+use Rattle.definitions.specs.Logs.{lebF, leb128, keptEntry, Count, continued, countF, allowed, countAt, put, keptThen, keptListF, keptList, orEmpty, keptAt, Placed, knownIei, notKnown, ignored, byForm, again, late, orderEntry, orderListF, orderList, entryAt, Logged, pushing, asking}
 
 -- ---- a count at the front
 
@@ -151,3 +151,62 @@ kept-front (x ∷ xs) h =
     kept-rest (x ∷ xs) (keptListF (length xs)) keptList (countAt (x ∷ xs)) (count-allowed (x ∷ xs)) h
     (λ t l. kept-fuel (length xs) (length t) t (omega arith) (omega arith))
     ∙ kept-entry (x ∷ xs) keptList (countAt (x ∷ xs))
+
+-- ---- the calls' checks
+
+-- refusal 3 of a used count, and none
+module _ (most : ℕ) (u : Used) where
+  pub past-buffer : length (u .buffer) < u .used → tooLong most u ≡ true
+  unfolding tooLong
+  past-buffer h = rw (lt-ltb (length (u .buffer)) (u .used) h)
+
+  pub past-limit : most < u .used → tooLong most u ≡ true
+  unfolding tooLong
+  past-limit h = rw (lt-ltb most (u .used) h) (by (ltb (length (u .buffer)) (u .used)))
+    where
+      by : (b : Bool) → (b || true) ≡ true
+      by true = refl
+      by false = refl
+
+  pub not-long : u .used ≤ length (u .buffer) → u .used ≤ most → tooLong most u ≡ false
+  unfolding tooLong
+  not-long h g = rw (le-ltb (length (u .buffer)) (u .used) h, le-ltb most (u .used) g)
+
+-- a question: each check in its place
+module _ (u : Used) (bad : Bool) (which : ℕ) (said : List ℕ) where
+  pub asking-long : tooLong mostLog u ≡ true → asking u bad which said ≡ answer 3 []
+  unfolding asking refusal
+  asking-long h = rw h
+
+  pub asking-bad : tooLong mostLog u ≡ false → bad ≡ true → asking u bad which said ≡ answer 11 (which ∷ [])
+  unfolding asking refusal
+  asking-bad h e = rw (h, e)
+
+  pub asking-done : tooLong mostLog u ≡ false → bad ≡ false → asking u bad which said ≡ answer 0 said
+  unfolding asking refusal
+  asking-done h e = rw (h, e)
+
+-- a push: each check in its place
+module _ (u : Used) (entry : List ℕ) (large bad : Bool) (which room : ℕ) where
+  abbrev after : ℕ
+  after = u .used + length entry
+
+  abbrev unpushed : Answer → Logged
+  unpushed a = record { said = a; log = u .buffer }
+
+  pub pushing-long : (tooLong mostLog u || (large || ltb mostLog after)) ≡ true → pushing u entry large bad which room ≡ unpushed (answer 3 [])
+  unfolding pushing refusal
+  pushing-long h = rw h
+
+  module _ (h : tooLong mostLog u ≡ false) (l : large ≡ false) (g : after ≤ mostLog) where
+    pub pushing-bad : bad ≡ true → pushing u entry large bad which room ≡ unpushed (answer 11 (which ∷ []))
+    unfolding pushing refusal
+    pushing-bad e = rw (h, l, le-ltb mostLog after g, e)
+
+    pub pushing-full : bad ≡ false → length (u .buffer) < after → pushing u entry large bad which room ≡ unpushed (answer 2 (room ∷ []))
+    unfolding pushing refusal
+    pushing-full e f = rw (h, l, le-ltb mostLog after g, e, lt-ltb (length (u .buffer)) after f)
+
+    pub pushing-done : bad ≡ false → after ≤ length (u .buffer) → pushing u entry large bad which room ≡ record { said = answer 0 (after ∷ []); log = overAt (u .used) entry (u .buffer) }
+    unfolding pushing refusal
+    pushing-done e f = rw (h, l, le-ltb mostLog after g, e, le-ltb (length (u .buffer)) after f)

@@ -1,7 +1,7 @@
 // The kept log: each element that no row took as its octet count in unsigned LEB128, then its octets. A log is a lent buffer
 // and how many of its octets are used.
+use octets::part;
 use octets::put_slice;
-use octets::Cursor;
 
 ghost use mathlib.Core.Path.{_≡_};
 ghost use mathlib.Core.List.{_++_, _∷_};
@@ -185,4 +185,73 @@ fn walk_kept(content: &[u8], want: usize) -> Walked
         }
     }
     Walked::Log(w.count, w.start, w.len)
+}
+
+// `UnknownIes::len`: how many elements there are.
+pub fn kept_count(log: &[u8], used: usize) -> Counted
+    ensures { λ r. ⌜ countedAs r ≡ keptCount (usedOf (now (log .entry)) used) ⌝ }
+{
+    if used > log.len() {
+        return Counted::TooLong;
+    }
+    if used > MOST_LOG {
+        return Counted::TooLong;
+    }
+    match walk_kept(&log[..used], 0) {
+        Walked::Log(count, _, _) => Counted::Elements(count),
+        Walked::Malformed => Counted::Malformed,
+    }
+}
+
+// `UnknownIes::get`: the element at a number from 0.
+pub fn kept_get(log: &[u8], used: usize, k: usize) -> Got
+    ensures { λ r. ⌜ gotAs r ≡ keptGet (usedOf (now (log .entry)) used) k ⌝ }
+{
+    if used > log.len() {
+        return Got::TooLong;
+    }
+    if used > MOST_LOG {
+        return Got::TooLong;
+    }
+    match walk_kept(&log[..used], k) {
+        Walked::Log(_, start, len) => {
+            if len == 0 {
+                return Got::PastLast;
+            }
+            Got::Element(start, len)
+        }
+        Walked::Malformed => Got::Malformed,
+    }
+}
+
+// The same as a part of the log, IEI first; no octet where there is none.
+pub fn kept_element(log: &[u8], used: usize, k: usize) -> &[u8]
+    ensures { λ r. ⌜ now r ≡ partOf (now (log .entry)) (keptGet (usedOf (now (log .entry)) used) k .values) ⌝ }
+{
+    match kept_get(log, used, k) {
+        Got::Element(start, len) => part(log, start, len),
+        Got::PastLast => &log[..0],
+        Got::TooLong => &log[..0],
+        Got::Malformed => &log[..0],
+    }
+}
+
+// `UnknownIes::clear`: every element out; no octet is used, and none changes.
+pub fn kept_clear(log: &[u8], used: usize) -> Pushed
+    ensures { λ r. ⌜ pushedAs 2 2 r ≡ keptClear (usedOf (now (log .entry)) used) .said ⌝ }
+{
+    Pushed::Used(0)
+}
+
+// How many octets a count takes in shortest form.
+pub fn count_len(n: usize) -> usize
+    ensures { λ r. ⌜ r ≡ length (leb128 n) ⌝ }
+{
+    if n < 128 {
+        return 1;
+    }
+    if n < 16_384 {
+        return 2;
+    }
+    3
 }

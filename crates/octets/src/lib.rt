@@ -1,7 +1,7 @@
 // Reading octets from a lent slice, with a cursor by value. Past the end each answer is Short, and nothing is read.
 ghost use mathlib.Core.Path.{_≡_};
 ghost use Prim.Native.Nat.{_+_, _*_};
-ghost use lib.ListN.{length, take};
+ghost use lib.ListN.{length, take, drop};
 ghost use Rattle.definitions.specs.Basic.{over};
 ghost use Rattle.definitions.specs.Octets.{remaining, run, numberAt};
 ghost use Rattle.octets.specs.Answers.{runOf, movedOf, octetOf, pairOf, fourOf, octetsOf};
@@ -161,4 +161,18 @@ pub fn put_slice(out: &mut [u8], octets: &[u8])
         out[i] = octets[i];
         i += 1;
     }
+}
+
+// The octets from a start on, at most so many: as far as there are any.
+pub fn part(s: &[u8], start: usize, len: usize) -> &[u8]
+    ensures { λ r. ⌜ now r ≡ take len (drop start (now (s .entry))) ⌝ }
+{
+    if start >= s.len() {
+        return &s[..0];
+    }
+    if len >= s.len() - start {
+        return &s[start..];
+    }
+    let end = start + len;
+    &s[start..end]
 }
