@@ -4,10 +4,11 @@ use Prim.Native.Nat.{ℕ, zero, suc, _+_, _-_, _≤_, _<_, min}
 use native.Mathlib.Omega.{arith}
 use native.Mathlib.Numerals.{add-one}
 use native.Mathlib.Nat.{add-comm}
-use mathlib.Core.Path.{_≡_, refl, ap, sym, _∙_}
-use mathlib.Core.List.{List, [], _∷_, _++_, append-assoc}
+use mathlib.Core.Path.{_≡_, refl, ap, ap₂, sym, _∙_}
+use mathlib.Core.List.{List, [], _∷_, _++_, append-assoc, append-nil}
 use lib.ListN.{length, getD, take, drop, set, length-take, length-drop, length-append, drop-of-length-le}
-use lib.Seq.{drop-cons, take-suc, set-at, drop-drop, take-all, drop-at, take-at, length-take-le}
+use lib.Seq.{drop-cons, take-suc, set-at, drop-drop, take-all, drop-at, take-at, length-take-le, take-append-seam, drop-append-seam}
+use borrow.Rule.Slice.PartMut.{putMid, postOf}
 use Rattle.definitions.specs.Basic.{over, overAt}
 
 -- one element more of s copied over d
@@ -36,3 +37,63 @@ length-over s d h = simp (length-append, length-drop) (omega arith)
 -- a part to the end is what is left
 pub to-end : (n : ℕ) (s : List ℕ) → take (length s - n) (drop n s) ≡ drop n s
 to-end n s = take-all (length s - n) (drop n s) (simp length-drop (omega arith))
+
+-- one, two or three numbers stored at the front
+module _ (a : ℕ) where
+  pub front-one : (d : List ℕ) → 1 ≤ length d → set d 0 a ≡ over (a ∷ []) d
+  unfolding over
+  front-one [] h = absurd (omega arith)
+  front-one (x ∷ d) h = refl
+
+  pub front-two : (b : ℕ) (d : List ℕ) → 2 ≤ length d → set (set d 0 a) 1 b ≡ over (a ∷ b ∷ []) d
+  unfolding over
+  front-two b [] h = absurd (omega arith)
+  front-two b (x ∷ []) h = absurd (omega arith)
+  front-two b (x ∷ y ∷ d) h = refl
+
+  pub front-three : (b c : ℕ) (d : List ℕ) → 3 ≤ length d → set (set (set d 0 a) 1 b) 2 c ≡ over (a ∷ b ∷ c ∷ []) d
+  unfolding over
+  front-three b c [] h = absurd (omega arith)
+  front-three b c (x ∷ []) h = absurd (omega arith)
+  front-three b c (x ∷ y ∷ []) h = absurd (omega arith)
+  front-three b c (x ∷ y ∷ z ∷ d) h = refl
+
+-- ---- a part that was lent, from a position to the end
+
+-- what stands in the buffer afterwards
+pub lent-end : (n : ℕ) (d ys : List ℕ) → n ≤ length d → putMid n (length d - n) d ys ≡ take n d ++ ys
+lent-end n d ys h =
+    let e : postOf n (length d - n) d ≡ [] = drop-of-length-le (drop n d) {i = length d - n} (simp length-drop (omega arith)) in
+    ap (λ (t : List ℕ). take n d ++ (ys ++ t)) e ∙ ap (λ (t : List ℕ). take n d ++ t) (append-nil ys)
+
+-- with the part's own front written
+pub lent-over : (n : ℕ) (s d : List ℕ) → n ≤ length d → putMid n (length d - n) d (over s (take (length d - n) (drop n d))) ≡ overAt n s d
+unfolding overAt
+lent-over n s d h = lent-end n d (over s (take (length d - n) (drop n d))) h ∙ ap (λ (t : List ℕ). take n d ++ over s t) (to-end n d)
+
+-- a second piece lent behind a first
+pub over-lent : (a b d : List ℕ) → length a ≤ length d → overAt (length a) b (over a d) ≡ over (a ++ b) d
+unfolding over overAt
+over-lent a b d h =
+    rw (take-append-seam a (drop (length a) d), drop-append-seam a (drop (length a) d)) (sym (over-append a b d))
+
+-- a number stored at the front, and the rest lent behind it
+pub over-cons : (x : ℕ) (s d : List ℕ) → 1 ≤ length d → overAt 1 s (set d 0 x) ≡ over (x ∷ s) d
+unfolding over overAt
+over-cons x s [] h = absurd (omega arith)
+over-cons x s (y ∷ d) h = refl
+
+-- octets that fit, put into the part by as many as there is room for
+pub lent-put : (n : ℕ) (s d : List ℕ) {ys : List ℕ} → n + length s ≤ length d
+    → ys ≡ over (take (length (take (length d - n) (drop n d))) s) (take (length d - n) (drop n d)) → putMid n (length d - n) d ys ≡ overAt n s d
+lent-put n s d h e =
+    let l : length s ≤ length (take (length d - n) (drop n d)) = simp (length-take, length-drop) (omega arith) in
+    rw (e, take-all (length (take (length d - n) (drop n d))) s l) (lent-over n s d (omega arith))
+
+-- a first piece written, and the part behind it lent for the second
+pub put-behind : (a b d : List ℕ) {c : ℕ} {d′ ys : List ℕ} → c ≡ length a → d′ ≡ over a d → length a ≤ length d
+    → ys ≡ over b (take (length d′ - c) (drop c d′)) → putMid c (length d′ - c) d′ ys ≡ over (a ++ b) d
+put-behind a b d {c = c} {d′ = d′} i e h q =
+    let l : c ≤ length d′ = omega (arith, ap length e ∙ length-over a d h) in
+    let p : putMid c (length d′ - c) d′ (over b (take (length d′ - c) (drop c d′))) ≡ overAt c b d′ = lent-over c b d′ l in
+    rw q (p ∙ ap₂ (λ (k : ℕ) (t : List ℕ). overAt k b t) i e ∙ over-lent a b d h)

@@ -68,6 +68,20 @@ shortest f [] = tt
 shortest zero (a ∷ s) = shortest-pick zero a none tt
 shortest (suc f) (a ∷ s) = shortest-pick (suc f) a (continued a (countF (suc f) s)) (shortest-continued f a (countF (suc f) s) (shortest f s))
 
+-- a count written, by its size
+module _ (n : ℕ) where
+  pub leb-one : n < 128 → leb128 n ≡ n ∷ []
+  unfolding leb128 lebF
+  leb-one h = rw (lt-ltb n 128 h)
+
+  pub leb-two : 128 ≤ n → n < 16384 → leb128 n ≡ (n % 128 + 128) ∷ (n / 128) ∷ []
+  unfolding leb128 lebF
+  leb-two h g = rw (le-ltb n 128 h, lt-ltb (n / 128) 128 (omega arith))
+
+  pub leb-three : 16384 ≤ n → leb128 n ≡ (n % 128 + 128) ∷ (n / 128 % 128 + 128) ∷ (n / 128 / 128) ∷ []
+  unfolding leb128 lebF
+  leb-three h = rw (le-ltb n 128 (omega arith), le-ltb (n / 128) 128 (omega arith))
+
 -- a count that is allowed: from 1 to 65,535, and as many octets as its value takes
 abbrev pub Allowed : Option Count → Type 0
 Allowed none = Unit
@@ -154,6 +168,10 @@ kept-front (x ∷ xs) h =
 
 -- ---- the calls' checks
 
+or-true : (b : Bool) → (b || true) ≡ true
+or-true true = refl
+or-true false = refl
+
 -- refusal 3 of a used count, and none
 module _ (most : ℕ) (u : Used) where
   pub past-buffer : length (u .buffer) < u .used → tooLong most u ≡ true
@@ -162,11 +180,7 @@ module _ (most : ℕ) (u : Used) where
 
   pub past-limit : most < u .used → tooLong most u ≡ true
   unfolding tooLong
-  past-limit h = rw (lt-ltb most (u .used) h) (by (ltb (length (u .buffer)) (u .used)))
-    where
-      by : (b : Bool) → (b || true) ≡ true
-      by true = refl
-      by false = refl
+  past-limit h = rw (lt-ltb most (u .used) h) (or-true (ltb (length (u .buffer)) (u .used)))
 
   pub not-long : u .used ≤ length (u .buffer) → u .used ≤ most → tooLong most u ≡ false
   unfolding tooLong
@@ -194,9 +208,18 @@ module _ (u : Used) (entry : List ℕ) (large bad : Bool) (which room : ℕ) whe
   abbrev unpushed : Answer → Logged
   unpushed a = record { said = a; log = u .buffer }
 
-  pub pushing-long : (tooLong mostLog u || (large || ltb mostLog after)) ≡ true → pushing u entry large bad which room ≡ unpushed (answer 3 [])
+  pushing-long : (tooLong mostLog u || (large || ltb mostLog after)) ≡ true → pushing u entry large bad which room ≡ unpushed (answer 3 [])
   unfolding pushing refusal
   pushing-long h = rw h
+
+  pub pushing-used : tooLong mostLog u ≡ true → pushing u entry large bad which room ≡ unpushed (answer 3 [])
+  pushing-used h = pushing-long (rw h)
+
+  pub pushing-large : large ≡ true → pushing u entry large bad which room ≡ unpushed (answer 3 [])
+  pushing-large h = pushing-long (rw h (or-true (tooLong mostLog u)))
+
+  pub pushing-over : mostLog < after → pushing u entry large bad which room ≡ unpushed (answer 3 [])
+  pushing-over h = pushing-long (rw (lt-ltb mostLog after h, or-true large) (or-true (tooLong mostLog u)))
 
   module _ (h : tooLong mostLog u ≡ false) (l : large ≡ false) (g : after ≤ mostLog) where
     pub pushing-bad : bad ≡ true → pushing u entry large bad which room ≡ unpushed (answer 11 (which ∷ []))
@@ -210,3 +233,26 @@ module _ (u : Used) (entry : List ℕ) (large bad : Bool) (which room : ℕ) whe
     pub pushing-done : bad ≡ false → after ≤ length (u .buffer) → pushing u entry large bad which room ≡ record { said = answer 0 (after ∷ []); log = overAt (u .used) entry (u .buffer) }
     unfolding pushing refusal
     pushing-done e f = rw (h, l, le-ltb mostLog after g, e, le-ltb (length (u .buffer)) after f)
+
+-- a count takes an octet or more
+pub leb-some : (n : ℕ) → 1 ≤ length (leb128 n)
+unfolding leb128 lebF
+leb-some n = by (ltb n 128)
+  where
+    by : (b : Bool) → 1 ≤ length (pick b (n ∷ []) ((n % 128 + 128) ∷ lebF 1 (n / 128)))
+    by true = omega arith
+    by false = omega arith
+
+pub entry-length : (e : List ℕ) → length (keptEntry e) ≡ length (leb128 (length e)) + length e
+unfolding keptEntry
+entry-length e = length-append (leb128 (length e)) e
+
+-- and three at most
+pub count-short : (n : ℕ) → length (leb128 n) ≤ 3
+unfolding leb128 lebF
+count-short n = by (ltb n 128) (ltb (n / 128) 128)
+  where
+    by : (b d : Bool) → length (pick b (n ∷ []) ((n % 128 + 128) ∷ pick d ((n / 128) ∷ []) ((n / 128 % 128 + 128) ∷ (n / 128 / 128) ∷ []))) ≤ 3
+    by true d = omega arith
+    by false true = omega arith
+    by false false = omega arith

@@ -3,3 +3,4 @@ pub mod Laws
 pub mod Counts
 pub mod Walks
 pub mod Asked
+pub mod Pushed

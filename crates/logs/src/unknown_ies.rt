@@ -255,3 +255,70 @@ pub fn count_len(n: usize) -> usize
     }
     3
 }
+
+// A count in shortest form into the front of a buffer; how many octets it takes.
+fn put_count(out: &mut [u8], n: usize) -> usize
+    requires { ⌜ (n ≤ 65535) × (length (leb128 n) ≤ length (now out)) ⌝ }
+    ensures { λ r. ⌜ (r ≡ length (leb128 n)) × (now (out .exit) ≡ over (leb128 n) (now (out .entry))) ⌝ }
+{
+    if n < 128 {
+        out[0] = n as u8;
+        return 1;
+    }
+    out[0] = (n % 128 + 128) as u8;
+    if n < 16_384 {
+        out[1] = (n / 128) as u8;
+        return 2;
+    }
+    out[1] = (n / 128 % 128 + 128) as u8;
+    out[2] = (n / 128 / 128) as u8;
+    3
+}
+
+// An IEI and the octets after it into the front of a buffer that has room for them.
+fn put_element(out: &mut [u8], iei: u8, octets: &[u8])
+    requires { ⌜ length (now octets) < length (now out) ⌝ }
+    ensures { λ r. ⌜ now (out .exit) ≡ over (iei ∷ now (octets .entry)) (now (out .entry)) ⌝ }
+{
+    out[0] = iei;
+    put_slice(&mut out[1..], octets);
+}
+
+// An element behind its count.
+fn put_entry(out: &mut [u8], iei: u8, octets: &[u8])
+    requires { ⌜ (length (now octets) < 65535) × (length (keptEntry (iei ∷ now octets)) ≤ length (now out)) ⌝ }
+    ensures { λ r. ⌜ now (out .exit) ≡ over (keptEntry (iei ∷ now (octets .entry))) (now (out .entry)) ⌝ }
+{
+    let c = put_count(out, octets.len() + 1);
+    put_element(&mut out[c..], iei, octets);
+}
+
+// `UnknownIes::push`: an IEI and the octets after it, behind those used.
+pub fn kept_push(log: &mut [u8], used: usize, iei: u8, octets: &[u8]) -> Pushed
+    ensures { λ r. ⌜ (pushedAs 2 2 r ≡ keptPush (usedOf (now (log .entry)) used) iei (now (octets .entry)) .said) × (now (log .exit) ≡ keptPush (usedOf (now (log .entry)) used) iei (now (octets .entry)) .log) ⌝ }
+{
+    if used > log.len() {
+        return Pushed::TooLong;
+    }
+    if used > MOST_LOG {
+        return Pushed::TooLong;
+    }
+    if octets.len() >= MOST_OCTETS {
+        return Pushed::TooLong;
+    }
+    let n = octets.len() + 1;
+    let need = count_len(n) + n;
+    if used + need > MOST_LOG {
+        return Pushed::TooLong;
+    }
+    match walk_kept(&log[..used], 0) {
+        Walked::Log(_, _, _) => {
+            if used + need > log.len() {
+                return Pushed::NoRoom;
+            }
+            put_entry(&mut log[used..], iei, octets);
+            Pushed::Used(used + need)
+        }
+        Walked::Malformed => Pushed::Malformed,
+    }
+}
