@@ -4,3 +4,8 @@ pub mod Lists
 pub mod Octets
 pub mod Length
 pub mod Logs
+pub mod Steps
+pub mod RowLaws
+pub mod FrameLaws
+pub mod LogLaws
+pub mod BitLaws

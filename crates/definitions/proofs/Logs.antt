@@ -43,10 +43,12 @@ shortest-continued f a (some c) p = by (eqb (c .value) 0) refl
   where
     v : ℕ
     v = a % 128 + 128 * c .value
+
     longer : (1 ≤ c .value) → length (lebF (suc f) v) ≡ suc (c .took)
     longer h =
         let q : v / 128 ≡ c .value = omega arith in
         rw (le-ltb v 128 (omega arith), q) (ap suc (p .0))
+
     by : (b : Bool) → eqb (c .value) 0 ≡ b → Shortest (suc f) (pick b none (some (record { value = v; took = suc (c .took) })))
     by true e = tt
     by false e = (longer (omega (arith, eqb-false (c .value) 0 e)), omega arith)
@@ -58,6 +60,7 @@ shortest-pick f a o p = by (ltb a 128) refl
     one : (f : ℕ) → a < 128 → length (lebF f a) ≡ 1
     one zero h = refl
     one (suc f) h = rw (lt-ltb a 128 h)
+
     by : (b : Bool) → ltb a 128 ≡ b → Shortest f (pick b (some (record { value = a; took = 1 })) o)
     by true e = (one f (ltb-true a 128 e), omega arith)
     by false e = p
@@ -95,6 +98,7 @@ count-allowed s = by (countF 3 s) (shortest 2 s)
     inside c p true true e g = (leb-true 1 (c .value) e, leb-true (c .value) mostOctets g, p .0, p .1)
     inside c p true false e g = tt
     inside c p false d e g = tt
+
     by : (o : Option Count) → Shortest 2 o → Allowed (allowed o)
     by none p = tt
     by (some c) p = inside c p (leb 1 (c .value)) (leb (c .value) mostOctets) refl refl
@@ -126,6 +130,7 @@ kept-entry s rest (some c) = by (leb (c .value) (length (drop (c .took) s)))
   where
     here : Option (List (List ℕ))
     here = put (take (c .value) (drop (c .took) s)) (rest (drop (c .value) (drop (c .took) s)))
+
     by : (b : Bool) → pick b here none ≡ keptBy s rest (pick b (some c) none)
     by true = refl
     by false = refl

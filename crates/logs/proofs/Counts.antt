@@ -97,7 +97,7 @@ module _ (s : List ℕ) where
           let n : 0 < length (drop 2 s) = simp length-drop (omega arith) in
           let c : Count = record { value = getD s 1 0 % 128 + 128 * getD s 2 0; took = 2 } in
           let e : continued (getD s 1 0) (countF 1 (drop 2 s)) ≡ some c =
-              rw (count-last 0 (drop 2 s) n x′, continued-more (getD s 1 0) (record { value = getD (drop 2 s) 0 0; took = 1 }) y′, third) in
+          rw (count-last 0 (drop 2 s) n x′, continued-more (getD s 1 0) (record { value = getD (drop 2 s) 0 0; took = 1 }) y′, third) in
           deeper ∙ rw (e, continued-more (getD s 0 0) c (omega arith))
 
 -- what a count that was read says of the definition

@@ -32,6 +32,7 @@ entry-known s = of (countAt s) (count-allowed s)
         let h : c .value ≤ length s - c .took = rw length-drop at (leb-true (c .value) (length (drop (c .took) s)) e) in
         (omega arith, p .0, p .3, p .2)
     there c p false e = tt
+
     of : (o : Option Count) → Allowed o → Entry s (entryOf s o)
     of none p = tt
     of (some c) p = there c p (leb (c .value) (length (drop (c .took) s))) refl
@@ -42,7 +43,6 @@ entry-at-fits s e = rw e at (entry-known s)
 -- what a walk tells with an entry passed, and from before it
 module _ (w : Walk) (want : ℕ) (c : Count) (e : List ℕ) (n : length e ≡ c .value)
     (one : 1 ≤ c .value) (digits : length (leb128 (c .value)) ≡ c .took) where
-
   told-found : (es : List (List ℕ)) → pick (ltb want (passed w want c .count)) (foundBy (passed w want c .start) (passed w want c .len)) (keptAt (passed w want c .at) (want - passed w want c .count) es)
       ≡ pick (ltb want (w .count)) (foundBy (w .start) (w .len)) (keptAt (w .at) (want - w .count) (e ∷ es))
   unfolding passed keptAt foundBy keptEntry
@@ -105,19 +105,21 @@ module _ (content : List ℕ) (want : ℕ) where
     passed-on c k e =
         let l : length left ≡ length content - w .at = length-drop (w .at) content in
         let rest : drop (c .value) (drop (c .took) left) ≡ drop (w .at + (c .took + c .value)) content =
-            drop-drop (c .value) (c .took) left ∙ drop-drop (c .took + c .value) (w .at) content in
+        drop-drop (c .value) (c .took) left ∙ drop-drop (c .took + c .value) (w .at) content in
         let front : keptList left ≡ put (take (c .value) (drop (c .took) left)) (keptList (drop (w .at + (c .took + c .value)) content)) =
-            rw (← rest) (kept-front left (omega arith) ∙ ap (keptBy left keptList) e) in
-        let n : length (take (c .value) (drop (c .took) left)) ≡ c .value = simp (length-take, length-drop) (omega arith) in
-        (record {
-          within = omega arith;
-          few = omega arith;
-          not-yet = later (eqb (w .count) want) refl;
-          tells =
-              told-passed w want c (take (c .value) (drop (c .took) left)) n (k .1) (k .3) (keptList (drop (w .at + (c .took + c .value)) content))
-              ∙ ap (tell w want) (sym front)
-              ∙ i .tells
-        }, omega arith)
+        rw (← rest) (kept-front left (omega arith) ∙ ap (keptBy left keptList) e) in
+        let n : length (take (c .value) (drop (c .took) left)) ≡ c .value = simp (length-take, length-drop) (omega arith) in (
+          record {
+            within = omega arith;
+            few = omega arith;
+            not-yet = later (eqb (w .count) want) refl;
+            tells =
+                told-passed w want c (take (c .value) (drop (c .took) left)) n (k .1) (k .3) (keptList (drop (w .at + (c .took + c .value)) content))
+                ∙ ap (tell w want) (sym front)
+                ∙ i .tells;
+          },
+          omega arith,
+        )
       where
         later : (b : Bool) → eqb (w .count) want ≡ b → w .count + 1 ≤ want → pick b (c .value) (w .len) ≡ 0
         later true x h = absurd (omega (arith, eqb-true (w .count) want x))

@@ -2,7 +2,6 @@
 use octets::Cursor;
 use octets::Octet;
 use octets::Pair;
-
 ghost use mathlib.Core.Path.{_≡_};
 ghost use Rattle.definitions.specs.Rows.{tlv, tlv-e};
 ghost use Rattle.definitions.specs.Length.{whole, unknownLength};

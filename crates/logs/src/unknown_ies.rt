@@ -2,7 +2,6 @@
 // and how many of its octets are used.
 use octets::part;
 use octets::put_slice;
-
 ghost use mathlib.Core.Path.{_≡_};
 ghost use mathlib.Core.List.{_++_, _∷_};
 ghost use Prim.Native.Nat.{_+_, _*_, _%_, _≤_, _<_};
@@ -14,6 +13,7 @@ ghost use Rattle.logs.specs.Kept.{countOf, countFrom, stepOf, toldBy, te
 
 // The most octets of an element, and of a log that is used.
 const MOST_OCTETS: usize = 65_535;
+
 const MOST_LOG: usize = 131_070;
 
 // What pushing answers: the octets then used, or a refusal.

@@ -64,11 +64,7 @@ impl Cursor {
         ensures { λ r. ⌜ r ≡ remaining (self .at) (now (s .entry)) ⌝ }
     {
         let at = self.at;
-        if at < s.len() {
-            s.len() - at
-        } else {
-            0
-        }
+        if at < s.len() { s.len() - at } else { 0 }
     }
 
     // The next n octets, as their place in the slice.

@@ -23,7 +23,7 @@ same-length : tie.Need-same-length Inv-loop μ-loop
 same-length c = omega arith
 
 returns : tie.Need-returns Inv-loop μ-loop
-returns c = 
+returns c =
     let a = c .before .before .before .args in
     let l = c .before .before .loop in
     let n : length (a .out .now) ≡ l .i = omega arith in
@@ -43,7 +43,7 @@ loop-less : tie.Need-loop-less Inv-loop μ-loop
 loop-less c = omega arith
 
 loop-again : tie.Need-loop-again Inv-loop μ-loop
-loop-again c = 
+loop-again c =
     let a = c .before .before .before .before .args in
     let l = c .before .before .before .loop in
     (omega arith, omega arith, simp length-set (l .inv .2), rw (l .inv .3) (copy-step (a .octets .now) (a .out .now) (l .i) (omega arith) (omega arith)))
@@ -52,7 +52,7 @@ same-length-2 : tie.Need-same-length-2 Inv-loop μ-loop
 same-length-2 c = omega arith
 
 returns-2 : tie.Need-returns-2 Inv-loop μ-loop
-returns-2 c = 
+returns-2 c =
     let a = c .before .before .args in
     let l = c .before .loop in
     let e : take (length (a .out .now)) (a .octets .now) ≡ take (l .i) (a .octets .now) = take-all (length (a .out .now)) (a .octets .now) (omega arith) ∙ sym (take-all (l .i) (a .octets .now) (omega arith)) in

@@ -40,14 +40,14 @@ returns-2 c = ap lengthOf (sym (unknown-one (c .before .before .before .before .
 
 returns-3 : tie.Need-returns-3
 unfolding longOrShort
-returns-3 c = 
+returns-3 c =
     let s = c .before .before .before .before .before .before .before .args .octets .now in
     let x : getD s 0 0 < 128 = kind-below (getD s 0 0) (sym (c .before .enum-told2 .given .1) ∙ c .before .before .before .unknown-kind .ensures) (λ e. let z : _≡_ {A = ℕ} 0 1 = cc in omega arith) in
     rw (unknown-below (c .before .before .before .before .before .before .before .args .tlve-start) s (omega arith) x) (c .long-or-short .ensures)
 
 returns-4 : tie.Need-returns-4
 unfolding longOrShort
-returns-4 c = 
+returns-4 c =
     let s = c .before .before .before .before .before .before .before .args .octets .now in
     let x : getD s 0 0 < 128 = kind-below (getD s 0 0) (sym (c .before .enum-told3 .given .1) ∙ c .before .before .before .unknown-kind .ensures) (λ e. let z : _≡_ {A = ℕ} 0 1 = cc in omega arith) in
     rw (unknown-below (c .before .before .before .before .before .before .before .args .tlve-start) s (omega arith) x) (c .long-or-short2 .ensures)

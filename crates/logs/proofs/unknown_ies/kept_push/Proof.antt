@@ -30,11 +30,11 @@ count-len-requires : tie.Need-count-len-requires
 count-len-requires c κs = search needs
 
 add-need : tie.Need-add-need
-add-need c = 
+add-need c =
     let r : c .count-len .result ≤ 3 = rw (c .count-len .ensures) (count-short _) in omega arith
 
 add-if4 : tie.Need-add-if4
-add-if4 c = 
+add-if4 c =
     let r : c .count-len .result ≤ 3 = rw (c .count-len .ensures) (count-short _) in omega arith
 
 returns-4 : tie.Need-returns-4
@@ -85,7 +85,7 @@ same-length-2 c = search needs
 
 returns-6 : tie.Need-returns-6
 unfolding toldBy
-returns-6 c = 
+returns-6 c =
     let a = c .before .before .before .before .before .before .before .before .before .before .before .before .before .before .before .before .args in
     let p = push-done (c .before .before .before .before .before .before .before .before .before .before .before .before .before .before .before .before .args .log .now) (c .before .before .before .before .before .before .before .before .before .before .before .before .before .before .before .before .args .octets .now) (c .before .before .before .before .before .before .before .before .before .before .before .before .before .before .before .before .args .used) (c .before .before .before .before .before .before .before .before .before .before .before .before .before .before .before .before .args .iei) (c .before .before .before .before .before .before .before .before .before .before .count-len .result) (c .before .before .before .before .before .before .before .before .before .before .count-len .ensures) (omega arith) (omega arith) (omega arith) (ap toldBy (sym (c .before .before .before .before .before .enum-told .given .1)) ∙ c .before .before .before .before .before .before .before .walk-kept .ensures) (omega arith) in
     (p .0, rw (c .before .before .put-entry .ensures) (lent-over (a .used) (keptEntry (a .iei ∷ a .octets .now)) (a .log .now) (omega arith)) ∙ p .1)

@@ -33,13 +33,13 @@ enum-known-value : tie.Need-enum-known-value
 enum-known-value c = search needs
 
 add-t15 : tie.Need-add-t15
-add-t15 c = 
+add-t15 c =
     let e = count-is (entryOf (drop (c .before .before .before .before .before .before .before .args .w .at) (c .before .before .before .before .before .before .before .args .content .now)) (countAt (drop (c .before .before .before .before .before .before .before .args .w .at) (c .before .before .before .before .before .before .before .args .content .now)))) (sym (c .before .before .value .given .1) ∙ entered (c .before .before .before .before)) in
     let k = entry-at-fits (drop (c .before .before .before .before .before .before .before .args .w .at) (c .before .before .before .before .before .before .before .args .content .now)) e in
     omega (arith, length-drop (c .before .before .before .before .before .before .before .args .w .at) (c .before .before .before .before .before .before .before .args .content .now))
 
 add-t16 : tie.Need-add-t16
-add-t16 c = 
+add-t16 c =
     let e = count-is (entryOf (drop (c .before .before .before .before .before .before .before .args .w .at) (c .before .before .before .before .before .before .before .args .content .now)) (countAt (drop (c .before .before .before .before .before .before .before .args .w .at) (c .before .before .before .before .before .before .before .args .content .now)))) (sym (c .before .before .value .given .1) ∙ entered (c .before .before .before .before)) in
     let k = entry-at-fits (drop (c .before .before .before .before .before .before .before .args .w .at) (c .before .before .before .before .before .before .before .args .content .now)) e in
     omega (arith, length-drop (c .before .before .before .before .before .before .before .args .w .at) (c .before .before .before .before .before .before .before .args .content .now))
@@ -48,25 +48,25 @@ add-t17 : tie.Need-add-t17
 add-t17 c = search needs
 
 add-t18 : tie.Need-add-t18
-add-t18 c = 
+add-t18 c =
     let e = count-is (entryOf (drop (c .before .before .before .before .before .before .before .args .w .at) (c .before .before .before .before .before .before .before .args .content .now)) (countAt (drop (c .before .before .before .before .before .before .before .args .w .at) (c .before .before .before .before .before .before .before .args .content .now)))) (sym (c .before .before .value .given .1) ∙ entered (c .before .before .before .before)) in
     let k = entry-at-fits (drop (c .before .before .before .before .before .before .before .args .w .at) (c .before .before .before .before .before .before .before .args .content .now)) e in
     omega (arith, length-drop (c .before .before .before .before .before .before .before .args .w .at) (c .before .before .before .before .before .before .before .args .content .now))
 
 returns : tie.Need-returns
 unfolding passed
-returns c = 
+returns c =
     let e = count-is (entryOf (drop (c .before .before .before .before .before .before .before .args .w .at) (c .before .before .before .before .before .before .before .args .content .now)) (countAt (drop (c .before .before .before .before .before .before .before .args .w .at) (c .before .before .before .before .before .before .before .args .content .now)))) (sym (c .before .before .value .given .1) ∙ entered (c .before .before .before .before)) in
     rw (e, eq-eqb (c .before .before .before .before .before .before .before .args .w .count) (c .before .before .before .before .before .before .before .args .want) (c .if1 .taken))
 
 add-t20 : tie.Need-add-t20
-add-t20 c = 
+add-t20 c =
     let e = count-is (entryOf (drop (c .before .before .before .before .before .before .before .args .w .at) (c .before .before .before .before .before .before .before .args .content .now)) (countAt (drop (c .before .before .before .before .before .before .before .args .w .at) (c .before .before .before .before .before .before .before .args .content .now)))) (sym (c .before .before .value .given .1) ∙ entered (c .before .before .before .before)) in
     let k = entry-at-fits (drop (c .before .before .before .before .before .before .before .args .w .at) (c .before .before .before .before .before .before .before .args .content .now)) e in
     omega (arith, length-drop (c .before .before .before .before .before .before .before .args .w .at) (c .before .before .before .before .before .before .before .args .content .now))
 
 add-t21 : tie.Need-add-t21
-add-t21 c = 
+add-t21 c =
     let e = count-is (entryOf (drop (c .before .before .before .before .before .before .before .args .w .at) (c .before .before .before .before .before .before .before .args .content .now)) (countAt (drop (c .before .before .before .before .before .before .before .args .w .at) (c .before .before .before .before .before .before .before .args .content .now)))) (sym (c .before .before .value .given .1) ∙ entered (c .before .before .before .before)) in
     let k = entry-at-fits (drop (c .before .before .before .before .before .before .before .args .w .at) (c .before .before .before .before .before .before .before .args .content .now)) e in
     omega (arith, length-drop (c .before .before .before .before .before .before .before .args .w .at) (c .before .before .before .before .before .before .before .args .content .now))
@@ -79,7 +79,7 @@ enum-told c = search needs
 
 returns-2 : tie.Need-returns-2
 unfolding passed
-returns-2 c = 
+returns-2 c =
     let e = count-is (entryOf (drop (c .before .before .before .before .before .before .before .args .w .at) (c .before .before .before .before .before .before .before .args .content .now)) (countAt (drop (c .before .before .before .before .before .before .before .args .w .at) (c .before .before .before .before .before .before .before .args .content .now)))) (sym (c .before .before .value .given .1) ∙ entered (c .before .before .before .before)) in
     rw (e, ne-eqb (c .before .before .before .before .before .before .before .args .w .count) (c .before .before .before .before .before .before .before .args .want) (c .if1 .left))
 

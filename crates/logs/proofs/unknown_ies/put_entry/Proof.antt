@@ -45,7 +45,7 @@ same-length c = search needs
 
 returns : tie.Need-returns
 unfolding keptEntry
-returns c = 
+returns c =
     let a = c .before .before .before .before .before .before .before .before .before .before .args in
     put-behind (leb128 (length (a .octets .now) + 1)) (a .iei ∷ a .octets .now) (a .out .now) (c .before .before .before .before .before .before .put-count .ensures .0) (c .before .before .before .before .before .before .put-count .ensures .1) (omega (arith, room (c .before .before .before .before .before .before .before .before .before .before))) (c .before .before .put-element .ensures)
     ∙ ap (λ (k : ℕ). over (leb128 k ++ (a .iei ∷ a .octets .now)) (a .out .now)) (add-one (length (a .octets .now)))
