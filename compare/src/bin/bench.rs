@@ -1,0 +1,251 @@
+//! Measures our side and the Rust on the same inputs from the same driver. It prints and never judges a speed.
+
+use std::hint::black_box;
+use std::process::ExitCode;
+use std::rc::Rc;
+use std::time::{Duration, Instant};
+
+use compare::calls::Call;
+use compare::judge::{Model, Room};
+use compare::oracle::{self, Logs, Table};
+use compare::rows::{Form, PLACE, Row, START, numbered};
+use compare::sides::{ByRust, Judged, Lent, Side, ours};
+
+/// An input: a part and the number of the table that it is read by.
+struct Input {
+    name: String,
+    number: usize,
+    part: Vec<u8>,
+}
+
+/// How a reading is measured.
+#[derive(Clone, Copy, PartialEq, Eq)]
+enum Way {
+    /// By number; lent memory as the last call left it, the Rust's logs emptied with their room kept.
+    Reused,
+    /// By number; lent memory zeroed before each call, the Rust's logs made anew.
+    New,
+    /// By a lent table, checked and indexed in each call, which the Rust indexes in each call; memory as in `Reused`.
+    Lent,
+}
+
+const WAYS: [(Way, &str); 3] =
+    [(Way::Reused, "number, reused"), (Way::New, "number, cleared"), (Way::Lent, "lent, reused")];
+
+/// A round of a measurement lasts about so long; the best of the rounds counts.
+const ROUND: Duration = Duration::from_millis(12);
+const ROUNDS: usize = 6;
+
+fn main() -> ExitCode {
+    let tables = match numbered() {
+        Ok(tables) => Rc::new(tables),
+        Err(message) => {
+            eprintln!("{message}");
+            return ExitCode::from(2);
+        }
+    };
+    let model = std::env::args().any(|argument| argument == "--model");
+    let ours = ours(tables.clone(), model);
+    let right = Judged::<ByRust>::new(tables.clone());
+    println!("{} and the Rust, nanoseconds a call; a ratio below 1 means that ours is faster", ours.name());
+    println!(
+        "reused: no buffer is cleared between calls; cleared: ours are zeroed and the Rust's made anew for each call"
+    );
+    println!("number: by table number; lent: ours checks and indexes the table in each call, the Rust indexes it");
+    println!("{:50} {:>7} {:16} {:>12} {:>12} {:>7}", "input", "octets", "way", "ours", "Rust", "ratio");
+    for input in inputs(&tables) {
+        let Some(bench) = Bench::new(&*ours, &right, &tables, &input) else {
+            println!("{}: the sides differ: run the comparison first", input.name);
+            return ExitCode::FAILURE;
+        };
+        for (way, words) in WAYS {
+            let (our_time, rust_time) = bench.times(way);
+            println!(
+                "{:50} {:>7} {:16} {:>12.1} {:>12.1} {:>7.2}",
+                input.name,
+                input.part.len(),
+                words,
+                our_time * 1e9,
+                rust_time * 1e9,
+                our_time / rust_time
+            );
+        }
+    }
+    println!();
+    println!("{:50} {:>7} {:>12} {:>12}", "million octets a second, by number, reused", "KiB", "ours", "Rust");
+    for (name, element) in [
+        ("all unknown, one octet each", &[0x90][..]),
+        ("all repeated, one octet each", &[0xc1]),
+        ("all repeated, two octets each", &[0x10, 0]),
+        ("all unknown, two octets each", &[0x6f, 0]),
+        ("unknown of 16 octets each", &[0x20, 14, 1, 2, 3, 4, 5, 6, 7, 8, 9, 10, 11, 12, 13, 14]),
+    ] {
+        for kib in [1, 4, 16, 64] {
+            // A part has at most 65,535 octets, one less than 64 KiB.
+            let octets = (1024 * kib).min(65_535);
+            let input = Input { name: name.into(), number: 0, part: repeat(element, octets) };
+            let Some(bench) = Bench::new(&*ours, &right, &tables, &input) else {
+                println!("{name}: the sides differ: run the comparison first");
+                return ExitCode::FAILURE;
+            };
+            let (our_time, rust_time) = bench.times(Way::Reused);
+            let speed = |time: f64| input.part.len() as f64 / time / 1e6;
+            println!("{name:50} {kib:>7} {:>12.1} {:>12.1}", speed(our_time), speed(rust_time));
+        }
+    }
+    ExitCode::SUCCESS
+}
+
+/// An element as often as it goes into so many octets.
+fn repeat(element: &[u8], octets: usize) -> Vec<u8> {
+    element.repeat(octets / element.len())
+}
+
+/// An element of a row with a value of so many octets, or of as few as the row takes.
+fn element(row: &Row, value: usize) -> Vec<u8> {
+    let header = match row.form {
+        Form::Half => 0,
+        Form::Fixed(_) => 1,
+        Form::Tlv => 2,
+        Form::TlvE => 3,
+    };
+    let length = value.max(row.least.saturating_sub(header));
+    // A first octet that the value rule takes.
+    let kind = row.set.trailing_zeros() as u8;
+    match row.form {
+        Form::Half => vec![row.ieis[0] | kind],
+        Form::Fixed(size) => [vec![row.ieis[0]], vec![kind; size]].concat(),
+        Form::Tlv => [vec![row.ieis[0], length as u8], vec![kind; length]].concat(),
+        Form::TlvE => [vec![row.ieis[0], (length >> 8) as u8, length as u8], vec![kind; length]].concat(),
+    }
+}
+
+fn inputs(tables: &[Vec<u32>]) -> Vec<Input> {
+    let names = [
+        "P",
+        "registration request",
+        "registration accept",
+        "registration reject",
+        "service request",
+        "PDU session establishment request",
+        "PDU session establishment accept",
+    ];
+    let mut inputs = Vec::new();
+    let mut add = |name: String, number: usize, part: Vec<u8>| inputs.push(Input { name, number, part });
+    for number in 1..=6 {
+        let rows = Model::new(&tables[number]).rows().to_vec();
+        let all: Vec<Vec<u8>> = rows.iter().map(|row| element(row, 1)).collect();
+        let third: Vec<u8> = all.iter().step_by(3).flatten().copied().collect();
+        let unknown: Vec<u8> = all.iter().flat_map(|element| [&[0x0f, 1, 7], &element[..]].concat()).collect();
+        let backward: Vec<u8> = all.iter().rev().flatten().copied().collect();
+        add(format!("{}, every third", names[number]), number, third);
+        add(format!("{}, every element", names[number]), number, all.concat());
+        add(format!("{}, unknown between", names[number]), number, unknown);
+        add(format!("{}, backward", names[number]), number, backward);
+    }
+    let rows = Model::new(&tables[1]).rows().to_vec();
+    let long = |iei: u8, value: usize| {
+        rows.iter().find(|row| row.ieis[0] == iei).map(|row| element(row, value)).unwrap_or_default()
+    };
+    add("long values, accepted".into(), 1, [long(0x70, 20_000), long(0x7b, 20_000), long(0x71, 20_000)].concat());
+    add("long values, repeated".into(), 1, [long(0x70, 20_000), long(0x70, 20_000), long(0x70, 20_000)].concat());
+    add("one unknown value".into(), 1, [vec![0x7a, 0xff, 0xfc], vec![7; 65_532]].concat());
+    add("one cut short".into(), 1, [vec![0x70, 0xff, 0xff], vec![7; 65_532]].concat());
+    for (name, element) in [
+        ("hostile: all unknown, one octet each", &[0x90][..]),
+        ("hostile: all repeated, one octet each", &[0xc1]),
+        ("hostile: all repeated, two octets each", &[0x10, 0]),
+        ("hostile: all unknown, two octets each", &[0x6f, 0]),
+        ("hostile: repeated and unknown in turn", &[0xc1, 0x90]),
+    ] {
+        add(name.into(), 0, repeat(element, 65_535));
+    }
+    inputs
+}
+
+/// An input that both sides read alike, and the room that it takes.
+struct Bench<'a> {
+    ours: &'a dyn Side,
+    input: &'a Input,
+    lent_table: &'a [u32],
+    table: Table,
+    room: Room,
+}
+
+impl<'a> Bench<'a> {
+    fn new(ours: &'a dyn Side, right: &dyn Side, tables: &'a [Vec<u32>], input: &'a Input) -> Option<Self> {
+        let lent_table = &tables[input.number];
+        let table = Table::new(lent_table);
+        let room = Room { rows: PLACE * table.places(), kept: 131_070, order: 131_070 };
+        let call = Call::ReadBy { number: input.number as u32, part: input.part.clone(), option: 0, room };
+        let right = call.on(right);
+        let room = Room { rows: room.rows, kept: right.values[0] as usize, order: right.values[1] as usize };
+        (call.on(ours) == right).then_some(Self { ours, input, lent_table, table, room })
+    }
+
+    /// Seconds a call, of ours and of the Rust.
+    fn times(&self, way: Way) -> (f64, f64) {
+        let part = &self.input.part;
+        let mut rows = vec![0; self.room.rows];
+        // No log is lent empty: to clear one of no octets is slow on some machines.
+        let mut kept = vec![0; self.room.kept.max(1)];
+        let mut order = vec![0; self.room.order.max(1)];
+        let mut values = [0; 4];
+        let mut ours = || {
+            if way == Way::New {
+                rows.fill(0);
+                kept.fill(0);
+                order.fill(0);
+            }
+            let lent = Lent { rows: &mut rows, kept: &mut kept, order: &mut order };
+            let part = black_box(part);
+            let number = match way {
+                Way::Lent => self.ours.read(part, self.lent_table, START, 0, lent, &mut values),
+                _ => self.ours.read_by(self.input.number as u32, part, 0, lent, &mut values),
+            };
+            black_box((number, &rows, &kept, &order, &values));
+        };
+        let mut places = vec![0; self.room.rows];
+        let mut logs = Logs::default();
+        let mut rust = || {
+            match way {
+                Way::New => logs = Logs::default(),
+                Way::Reused => logs.clear(),
+                Way::Lent => {
+                    logs.clear();
+                    black_box(self.table.index_again());
+                }
+            }
+            let read = oracle::read_into(&self.table, black_box(part), START, false, &mut places, &mut logs);
+            black_box((read.is_ok(), &places, &logs));
+        };
+        best(&mut ours, &mut rust)
+    }
+}
+
+/// Seconds a call of each in the best of its rounds, which come in turn.
+fn best(ours: &mut dyn FnMut(), rust: &mut dyn FnMut()) -> (f64, f64) {
+    let (our_calls, rust_calls) = (calls(ours), calls(rust));
+    let mut shortest = (f64::MAX, f64::MAX);
+    for _ in 0..ROUNDS {
+        shortest.0 = shortest.0.min(round(ours, our_calls));
+        shortest.1 = shortest.1.min(round(rust, rust_calls));
+    }
+    shortest
+}
+
+/// How many calls make a round.
+fn calls(call: &mut dyn FnMut()) -> u32 {
+    call();
+    let once = round(call, 8).max(1e-8);
+    (ROUND.as_secs_f64() / once).clamp(1.0, 1e6) as u32
+}
+
+/// Seconds a call, of so many.
+fn round(call: &mut dyn FnMut(), calls: u32) -> f64 {
+    let begun = Instant::now();
+    for _ in 0..calls {
+        call();
+    }
+    begun.elapsed().as_secs_f64() / f64::from(calls)
+}

@@ -1,0 +1,50 @@
+//! The Rust, taken in at build time, under the names by which its files call one another, and the shims that it leans on.
+//! Each shim is listed in README.md.
+
+pub(crate) use codec::{NasError, Reader, Result, too_short};
+pub(crate) use message_macros::{IeiIndex, IeiTable, decode_optional_ies, iei_index, place};
+pub(crate) use unknown_ie::{IeOrder, IgnoredIeReason, Placed, UnknownIes, generic_ie_length};
+
+#[allow(dead_code, clippy::box_collection)]
+mod codec {
+    include!(concat!(env!("OUT_DIR"), "/codec.rs"));
+}
+
+#[allow(dead_code)]
+mod unknown_ie {
+    include!(concat!(env!("OUT_DIR"), "/unknown_ie.rs"));
+
+    impl UnknownIes {
+        pub(crate) fn from_octets(octets: Vec<u8>) -> Self {
+            Self { octets }
+        }
+
+        pub(crate) fn octets(&self) -> &[u8] {
+            &self.octets
+        }
+    }
+
+    impl IeOrder {
+        pub(crate) fn from_octets(octets: Vec<u8>) -> Self {
+            Self(octets)
+        }
+
+        pub(crate) fn octets(&self) -> &[u8] {
+            &self.0
+        }
+
+        pub(crate) fn clear(&mut self) {
+            self.0.clear();
+        }
+    }
+}
+
+mod message_macros {
+    use crate::common::{IeOrder, IgnoredIeReason, NasError, Placed, Reader, Result, UnknownIes, generic_ie_length};
+
+    include!(concat!(env!("OUT_DIR"), "/message_macros.rs"));
+
+    pub(crate) fn place(index: &IeiIndex, iei: u8) -> Option<usize> {
+        place_of(index, iei)
+    }
+}

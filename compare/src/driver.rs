@@ -1,0 +1,83 @@
+//! One driver for all cases: both sides, the same call, the same lent memory; counts and differences.
+
+use std::collections::BTreeMap;
+use std::rc::Rc;
+
+use crate::calls::Call;
+use crate::random::Random;
+use crate::sides::{ByRust, Judged, Side};
+
+/// How many differences are printed; the others are counted.
+const PRINTED: u64 = 5;
+
+pub struct Driver {
+    pub ours: Box<dyn Side>,
+    pub right: Judged<ByRust>,
+    pub tables: Rc<Vec<Vec<u32>>>,
+    pub random: Random,
+    /// How many times as many random cases as usual.
+    pub times: usize,
+    pub cases: u64,
+    /// How often reading gave each number; of 2, also which.
+    pub readings: BTreeMap<(u32, u64), u64>,
+    pub differences: u64,
+}
+
+impl Driver {
+    pub fn new(ours: Box<dyn Side>, tables: Rc<Vec<Vec<u32>>>, seed: u64, times: usize) -> Self {
+        Self {
+            ours,
+            right: Judged::new(tables.clone()),
+            tables,
+            random: Random::new(seed),
+            times,
+            cases: 0,
+            readings: BTreeMap::new(),
+            differences: 0,
+        }
+    }
+
+    /// One case: both sides, the same call, the same lent memory.
+    pub fn check(&mut self, call: Call) {
+        self.cases += 1;
+        let right = call.on(&self.right);
+        if call.is_reading() {
+            let which = if right.number == 2 { right.values[0] } else { 0 };
+            *self.readings.entry((right.number, which)).or_default() += 1;
+        }
+        if call.on(&*self.ours) != right {
+            if self.differences < PRINTED {
+                let differs = |call: &Call| call.on(&*self.ours) != call.on(&self.right);
+                let call = call.smallest(&differs);
+                println!("difference: {call}");
+                println!("  {}: {}", self.ours.name(), call.on(&*self.ours));
+                println!("  {}: {}", self.right.name(), call.on(&self.right));
+            }
+            self.differences += 1;
+        }
+    }
+
+    /// An answer of the Rust that is not as document 01 prints it, or not as recorded, is a difference too.
+    pub fn expect(&mut self, as_written: bool, call: &Call) {
+        if !as_written {
+            println!("difference: not as it is written down: {call}");
+            println!("  {}: {}", self.right.name(), call.on(&self.right));
+            self.differences += 1;
+        }
+    }
+}
+
+/// Every list over an alphabet up to a length.
+pub fn every(alphabet: &[u8], length: usize, visit: &mut dyn FnMut(&[u8])) {
+    fn from(list: &mut Vec<u8>, alphabet: &[u8], left: usize, visit: &mut dyn FnMut(&[u8])) {
+        visit(list);
+        if left > 0 {
+            for &octet in alphabet {
+                list.push(octet);
+                from(list, alphabet, left - 1, visit);
+                list.pop();
+            }
+        }
+    }
+    from(&mut Vec::new(), alphabet, length, visit);
+}

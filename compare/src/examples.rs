@@ -1,0 +1,22 @@
+//! The examples of document 01 under table P: what the oracle itself has to say of them.
+
+/// Part, option, order log, kept log.
+pub type Example = (&'static [u8], bool, &'static [u8], &'static [u8]);
+
+pub const READ: [Example; 12] = [
+    (&[], false, &[], &[]),
+    (&[0xc1, 0x10, 1, 0xaa], false, &[], &[]),
+    (&[0x10, 0, 0x10, 1, 0xaa], false, &[2, 3], &[2, 0x10, 0, 3, 0x10, 1, 0xaa]),
+    (&[0x31, 1, 2], false, &[0, 0x31], &[]),
+    (&[0x52, 7, 8, 0xc1], false, &[0, 0x52, 4], &[1, 0xc1]),
+    (&[0x52, 7, 8, 0xc1], true, &[0, 0x52, 0, 0xc0], &[]),
+    (&[0x52, 7, 8, 0xc3], true, &[0, 0x52, 4], &[1, 0xc3]),
+    (&[0xc1, 0x90, 0x10, 1, 0xaa], false, &[0, 0xc0, 1, 0, 0x10], &[1, 0x90]),
+    (&[0x77, 0, 5, 0xaa, 0xc1], false, &[2], &[5, 0x77, 0, 5, 0xaa, 0xc1]),
+    (&[0x6f, 0], false, &[1], &[2, 0x6f, 0]),
+    (&[0x70, 0, 0], false, &[1], &[3, 0x70, 0, 0]),
+    (&[5, 1, 0xaa], false, &[1], &[3, 5, 1, 0xaa]),
+];
+
+/// Part, and the three values of refusal 1.
+pub const CUT: [(&[u8], [u64; 3]); 2] = [(&[5, 2, 0xaa], [0, 5, 3]), (&[0x7e, 0], [0, 0x7e, 2])];

@@ -1,0 +1,84 @@
+//! Drives our side and the Rust on the same inputs and compares numbers, values and all lent memory.
+
+use std::process::ExitCode;
+use std::rc::Rc;
+use std::time::Instant;
+
+use compare::driver::Driver;
+use compare::rows::numbered;
+use compare::sides::{Side, ours};
+
+const USAGE: &str = "usage: compare [--times N] [--seed N] [--model]
+  --times N  N times as many random cases (1)
+  --seed N   the seed of the random cases (1)
+  --model    the model of document 01 in place of libnas.a";
+
+/// A part of the comparison.
+type Section = fn(&mut Driver);
+
+struct Settings {
+    times: usize,
+    seed: u64,
+    model: bool,
+}
+
+/// The settings that the arguments ask for; none where there is an argument of another kind.
+fn settings() -> Option<Settings> {
+    let mut settings = Settings { times: 1, seed: 1, model: false };
+    let mut arguments = std::env::args().skip(1);
+    while let Some(argument) = arguments.next() {
+        match argument.as_str() {
+            "--model" => settings.model = true,
+            "--times" => settings.times = arguments.next()?.parse().ok()?,
+            "--seed" => settings.seed = arguments.next()?.parse().ok()?,
+            _ => return None,
+        }
+    }
+    Some(settings)
+}
+
+fn main() -> ExitCode {
+    let Some(Settings { times, seed, model }) = settings() else {
+        eprintln!("{USAGE}");
+        return ExitCode::from(2);
+    };
+    let tables = match numbered() {
+        Ok(tables) => Rc::new(tables),
+        Err(message) => {
+            eprintln!("{message}");
+            return ExitCode::from(2);
+        }
+    };
+    let mut driver = Driver::new(ours(tables.clone(), model), tables, seed, times);
+    println!("{} against {}, seed {seed}, times {times}", driver.ours.name(), driver.right.name());
+    let begun = Instant::now();
+    let sections: [(&str, Section); 12] = [
+        ("examples of document 01", Driver::examples),
+        ("recorded answers", Driver::recorded),
+        ("unknown length", Driver::lengths),
+        ("table checks", Driver::checks),
+        ("index", Driver::indexes),
+        ("kept log", Driver::kept),
+        ("order log", Driver::order),
+        ("full logs", Driver::full_logs),
+        ("every short part", Driver::every_part),
+        ("random tables", Driver::random_tables),
+        ("numbered tables", Driver::numbered_tables),
+        ("long parts", Driver::long_parts),
+    ];
+    for (name, section) in sections {
+        let before = (driver.cases, driver.differences);
+        section(&mut driver);
+        let (cases, differences) = (driver.cases - before.0, driver.differences - before.1);
+        println!("{name}: {cases} cases, {differences} differences, {:.1} s", begun.elapsed().as_secs_f32());
+    }
+    println!("of them {} readings:", driver.readings.values().sum::<u64>());
+    for ((number, which), count) in &driver.readings {
+        match number {
+            2 => println!("  {number} ({which}): {count}"),
+            _ => println!("  {number}: {count}"),
+        }
+    }
+    println!("{} cases, {} differences", driver.cases, driver.differences);
+    ExitCode::from(u8::from(driver.differences > 0))
+}

@@ -1,0 +1,105 @@
+//! Tables as they are lent: nine numbers a row, namely how many IEIs, four IEIs, the code of the form, the size of a fixed
+//! form, the least whole length and the set. Table P and the six real tables by their numbers.
+
+use std::path::PathBuf;
+use std::{env, fs};
+
+/// How many numbers a row of an optional table has, a row of a mandatory one, and the row of a place.
+pub const WIDTH: usize = 9;
+pub const MANDATORY_WIDTH: usize = 4;
+pub const PLACE: usize = 3;
+
+/// The start number of the long form for P and the six real tables.
+pub const START: u8 = 0x70;
+
+#[derive(Debug, Clone, Copy, PartialEq, Eq)]
+pub enum Form {
+    Half,
+    Fixed(usize),
+    Tlv,
+    TlvE,
+}
+
+/// A row of a table that passes the check.
+#[derive(Debug, Clone)]
+pub struct Row {
+    pub ieis: Vec<u8>,
+    pub form: Form,
+    pub least: usize,
+    pub set: u32,
+}
+
+/// The rows of a table that passes the check.
+pub fn rows_of(table: &[u32]) -> Vec<Row> {
+    table
+        .chunks_exact(WIDTH)
+        .map(|row| Row {
+            ieis: row[1..1 + row[0] as usize].iter().map(|&iei| iei as u8).collect(),
+            form: match row[5] {
+                0 => Form::Half,
+                1 => Form::Fixed(row[6] as usize),
+                2 => Form::Tlv,
+                _ => Form::TlvE,
+            },
+            least: row[7] as usize,
+            set: row[8],
+        })
+        .collect()
+}
+
+/// The numbers of a row with these IEIs.
+pub fn numbers(ieis: &[u32], code: u32, size: u32, least: u32, set: u32) -> [u32; WIDTH] {
+    let iei = |k: usize| ieis.get(k).copied().unwrap_or(0);
+    [ieis.len() as u32, iei(0), iei(1), iei(2), iei(3), code, size, least, set]
+}
+
+/// Table P of document 01.
+fn table_p() -> Vec<u32> {
+    [
+        numbers(&[0xc0], 0, 0, 0, 7),
+        numbers(&[0x10], 2, 0, 3, 255),
+        numbers(&[0x52], 1, 2, 0, 255),
+        numbers(&[0x2f, 0x31], 2, 0, 2, 7),
+        numbers(&[0x77], 3, 0, 3, 255),
+    ]
+    .concat()
+}
+
+/// The optional tables by number: 0 is P, 1 to 6 are the real ones, read from the list of the edition 16.8.0.
+pub fn numbered() -> Result<Vec<Vec<u32>>, String> {
+    let folder = match env::var("NAS_TABLES") {
+        Ok(path) => PathBuf::from(path),
+        Err(_) => PathBuf::from(env!("CARGO_MANIFEST_DIR")).join("../../shared/tables"),
+    };
+    let path = folder.join("5gs-16.8.tsv");
+    let text = fs::read_to_string(&path).map_err(|error| {
+        format!(
+            "The rows of the six real tables are not at {}: {error}.\n\
+             Put 5gs-16.8.tsv into ../shared/tables, seen from the repository, or name its folder in NAS_TABLES.",
+            path.display()
+        )
+    })?;
+    let mut tables = vec![Vec::new(); 7];
+    tables[0] = table_p();
+    for line in text.lines().skip(1) {
+        let column: Vec<&str> = line.split('\t').collect();
+        if column[1] == "O" {
+            let message: usize = column[0].parse().map_err(|_| format!("no message number: {line}"))?;
+            let row = optional(&column).ok_or_else(|| format!("no row of an optional element: {line}"))?;
+            tables.get_mut(message).ok_or_else(|| format!("no message 1 to 6: {line}"))?.extend(row);
+        }
+    }
+    Ok(tables)
+}
+
+/// The numbers of an optional row of the list: message, part, row, IEI, name, form, least, greatest, set.
+fn optional(column: &[&str]) -> Option<[u32; WIDTH]> {
+    let iei = u32::from_str_radix(column.get(3)?, 16).ok()?;
+    let (code, size) = match *column.get(5)? {
+        "half" => (0, 0),
+        "tlv" => (2, 0),
+        "tlv-e" => (3, 0),
+        fixed => (1, fixed.strip_prefix("fixed-")?.parse().ok()?),
+    };
+    Some(numbers(&[iei], code, size, column.get(6)?.parse().ok()?, column.get(8)?.parse().ok()?))
+}
