@@ -9,3 +9,4 @@ pub mod RowLaws
 pub mod FrameLaws
 pub mod LogLaws
 pub mod BitLaws
+pub mod Orders

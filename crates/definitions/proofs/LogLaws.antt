@@ -140,7 +140,7 @@ unfolding orderList
 order-back ps = order-backF (length (orderLog ps)) ps (omega arith)
 
 -- one step of a log that begins with 00; the other entries compute
-order-counted : (f g : ℕ) (s : List ℕ) → length s ≤ f → length s ≤ g → orderListF f s ≡ orderListF g s
+pub order-counted : (f g : ℕ) (s : List ℕ) → length s ≤ f → length s ≤ g → orderListF f s ≡ orderListF g s
 unfolding orderListF
 order-counted zero zero s h k = refl
 order-counted zero (suc g) [] h k = refl

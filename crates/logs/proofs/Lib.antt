@@ -4,3 +4,5 @@ pub mod Counts
 pub mod Walks
 pub mod Asked
 pub mod Pushed
+pub mod Entries
+pub mod OrderWalks

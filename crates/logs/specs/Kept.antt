@@ -3,8 +3,8 @@ use Prim.Native.Nat.{ℕ, zero, suc, _+_, _-_}
 use mathlib.Core.List.{List, [], _∷_}
 use mathlib.Core.Option.{Option, none, some}
 use lib.ListN.{length, take, drop}
-use lib.Dec.{eqb, ltb}
-use Rattle.definitions.specs.Basic.{pick, Answer, answer, Used}
+use lib.Dec.{eqb, ltb, leb}
+use Rattle.definitions.specs.Basic.{pick, Answer, answer, Used, over}
 use Rattle.definitions.specs.Logs.{Count as DefCount, keptAt}
 use Rattle.logs.specs.declared.unknown_ies.Count.{Count}
 use Rattle.logs.specs.declared.unknown_ies.Walk.{Walk}
@@ -37,6 +37,10 @@ gotAs Got.Malformed = answer 11 (2 ∷ [])
 -- a lent buffer with its used count
 abbrev pub usedOf : List ℕ → ℕ → Used
 usedOf buffer used = record { buffer = buffer; used = used }
+
+-- octets in the front of a buffer, if there is room for all of them
+unfoldable pub ifRoom : List ℕ → List ℕ → List ℕ
+ifRoom s buffer = pick (leb (length s) (length buffer)) (over s buffer) buffer
 
 -- the element that an answer names, as a part of the log; no octet where it names none
 abbrev pub partOf : List ℕ → List ℕ → List ℕ

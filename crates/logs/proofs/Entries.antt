@@ -1,0 +1,23 @@
+-- The octets of an order log's entry: those that are set aside have one.
+-- By cases on the reason.
+use Prim.Native.Nat.{ℕ, _≤_}
+use mathlib.Core.Path.{_≡_, refl, ap}
+use mathlib.Core.List.{List, [], _∷_}
+use lib.ListN.{length, getD}
+use borrow.Author.Tests.{le-leb}
+use Rattle.definitions.specs.Basic.{over}
+use Rattle.logs.specs.Kept.{ifRoom}
+use Rattle.definitions.specs.Logs.{Reason, byForm, again, late, ignored, orderEntry}
+
+pub one-octet : (r : Reason) → orderEntry (ignored r) ≡ getD (orderEntry (ignored r)) 0 0 ∷ []
+unfolding orderEntry
+one-octet byForm = refl
+one-octet again = refl
+one-octet late = refl
+
+pub one-length : (r : Reason) → length (orderEntry (ignored r)) ≡ 1
+one-length r = ap length (one-octet r)
+
+pub if-room : (s d : List ℕ) → length s ≤ length d → ifRoom s d ≡ over s d
+unfolding ifRoom
+if-room s d h = rw (le-leb (length s) (length d) h)
