@@ -97,3 +97,8 @@ put-behind a b d {c = c} {d′ = d′} i e h q =
     let l : c ≤ length d′ = omega (arith, ap length e ∙ length-over a d h) in
     let p : putMid c (length d′ - c) d′ (over b (take (length d′ - c) (drop c d′))) ≡ overAt c b d′ = lent-over c b d′ l in
     rw q (p ∙ ap₂ (λ (k : ℕ) (t : List ℕ). overAt k b t) i e ∙ over-lent a b d h)
+
+-- the first and the rest, as a part to the end
+pub first-rest : (s : List ℕ) → 1 ≤ length s → getD s 0 0 ∷ take (length s - 1) (drop 1 s) ≡ s
+first-rest [] h = absurd (omega arith)
+first-rest (x ∷ s) h = ap (λ (t : List ℕ). x ∷ t) (take-all (suc (length s) - 1) s (omega arith))

@@ -1,11 +1,12 @@
 -- The answers of the kept log by the definitions, and what a walk over it holds.
 use Prim.Native.Nat.{ℕ, zero, suc, _+_, _-_}
 use mathlib.Core.List.{List, [], _∷_}
+use mathlib.Core.Bool.{_&&_}
 use mathlib.Core.Option.{Option, none, some}
 use lib.ListN.{length, take, drop}
 use lib.Dec.{eqb, ltb, leb}
-use Rattle.definitions.specs.Basic.{pick, Answer, answer, Used, over}
-use Rattle.definitions.specs.Logs.{Count as DefCount, keptAt}
+use Rattle.definitions.specs.Basic.{pick, Answer, answer, Used, over, mostOctets}
+use Rattle.definitions.specs.Logs.{Count as DefCount, keptAt, keptEntry}
 use Rattle.logs.specs.declared.unknown_ies.Count.{Count}
 use Rattle.logs.specs.declared.unknown_ies.Walk.{Walk}
 use Rattle.logs.specs.declared.unknown_ies.Step.{Step}
@@ -83,3 +84,7 @@ tell w want (some es) = some ((w .count + length es) ∷ pick (ltb want (w .coun
 -- a walk that begins
 abbrev pub startWalk : Walk
 startWalk = record { at = 0; count = 0; start = 0; len = 0 }
+
+-- an element in the front of a buffer behind its count, if it is one that a log can hold and there is room
+unfoldable pub keptInto : List ℕ → List ℕ → List ℕ
+keptInto e buffer = pick (leb 1 (length e) && leb (length e) mostOctets) (ifRoom (keptEntry e) buffer) buffer

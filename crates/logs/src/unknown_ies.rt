@@ -9,7 +9,7 @@ ghost use lib.ListN.{length, take, drop};
 ghost use Rattle.definitions.specs.Basic.{over};
 ghost use Rattle.definitions.specs.Logs.{leb128, keptEntry, countAt, allowed, keptList, keptPush, keptCount, keptGet, keptClear};
 ghost use Rattle.definitions.proofs.Logs.{entryOf};
-ghost use Rattle.logs.specs.Kept.{countOf, countFrom, stepOf, toldBy, tell, startWalk, pushedAs, countedAs, gotAs, usedOf, partOf};
+ghost use Rattle.logs.specs.Kept.{countOf, countFrom, stepOf, toldBy, tell, startWalk, pushedAs, countedAs, gotAs, usedOf, partOf, keptInto};
 
 // The most octets of an element, and of a log that is used.
 const MOST_OCTETS: usize = 65_535;
@@ -321,4 +321,21 @@ pub fn kept_push(log: &mut [u8], used: usize, iei: u8, octets: &[u8]) -> Pushed
         }
         Walked::Malformed => Pushed::Malformed,
     }
+}
+
+// An element, its IEI first, behind its count into the front of a buffer, if it has from 1 to 65,535 octets and there is room.
+pub fn put_raw(out: &mut [u8], element: &[u8])
+    ensures { λ r. ⌜ now (out .exit) ≡ keptInto (now (element .entry)) (now (out .entry)) ⌝ }
+{
+    let n = element.len();
+    if n == 0 {
+        return;
+    }
+    if n > MOST_OCTETS {
+        return;
+    }
+    if count_len(n) + n > out.len() {
+        return;
+    }
+    put_entry(out, element[0], &element[1..]);
 }
