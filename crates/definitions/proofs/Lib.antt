@@ -6,6 +6,7 @@ pub mod Length
 pub mod Logs
 pub mod Steps
 pub mod RowLaws
+pub mod TableLaws
 pub mod FrameLaws
 pub mod LogLaws
 pub mod BitLaws

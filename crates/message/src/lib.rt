@@ -1,0 +1,2 @@
+// Reading and writing the elements of a message by a table.
+pub mod seen;

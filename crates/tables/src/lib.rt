@@ -1,0 +1,2 @@
+// The tables of information elements: reading their rows, checking them, the index of their IEIs, and the real tables.
+pub mod rows;
