@@ -76,3 +76,7 @@ required-high x h g = rw (lt-leb x 15 (omega arith)) (by (eqb x 126) refl)
 pub required-not : (x : ℕ) → 15 < x → x < 126 → required x ≡ false
 unfolding required
 required-not x h g = rw (lt-leb x 15 (omega arith), ne-eqb x 126 (omega arith), ne-eqb x 127 (omega arith))
+
+pub required-one : (x : ℕ) → 128 ≤ x → required x ≡ false
+unfolding required
+required-one x h = rw (lt-leb x 15 (omega arith), ne-eqb x 126 (omega arith), ne-eqb x 127 (omega arith))

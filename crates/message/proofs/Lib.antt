@@ -1,2 +1,5 @@
 -- Laws that the proofs of this crate cite.
 pub mod Sets
+pub mod Frames
+pub mod Known
+pub mod Steps

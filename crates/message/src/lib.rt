@@ -1,2 +1,3 @@
 // Reading and writing the elements of a message by a table.
+pub mod element;
 pub mod seen;

@@ -1,0 +1,254 @@
+// One element at a time: how long it is, whether its row takes it, and its verdict.
+use crate::seen::seen_has;
+use crate::seen::seen_with;
+use crate::seen::Seen;
+use logs::ie_order::IgnoredIeReason;
+use logs::ie_order::Placed;
+use logs::length::generic_ie_length;
+use logs::length::tlv_length;
+use logs::length::tlve_length;
+use logs::length::unknown_kind;
+use logs::length::Length;
+use logs::length::UnknownKind;
+use tables::rows::form_at;
+use tables::rows::kinds_at;
+use tables::rows::least_at;
+use tables::rows::Form;
+
+ghost use mathlib.Core.Path.{_≡_};
+ghost use mathlib.Core.Option.{some};
+ghost use Prim.Native.Nat.{_+_, _≤_, _<_, _^_, max};
+ghost use lib.ListN.{length, getD, take, drop};
+ghost use Rattle.definitions.specs.Basic.{receivable};
+ghost use Rattle.definitions.specs.Rows.{rowsOf, rowAt, form, ieiOf};
+ghost use Rattle.definitions.specs.Length.{header, within, whole, unknownLength, required};
+ghost use Rattle.definitions.specs.Elements.{takenBy, judged, known, meet, next, strangerStep, step};
+ghost use Rattle.logs.specs.Answers.{lengthOf};
+ghost use Rattle.tables.specs.Forms.{formAs};
+ghost use Rattle.message.specs.Steps.{placedFor, foundAt, stepOf, metOf, Indexed};
+
+// No place: an IEI that no row lists.
+pub const NO_PLACE: usize = 255;
+
+// Where reading is: the position, the places met, and the highest of them.
+pub struct State {
+    pub at: usize,
+    pub seen: Seen,
+    pub highest: usize,
+}
+
+// An element: its start and length, its IEI, its place or NO_PLACE, and how it came.
+pub struct Element {
+    pub start: usize,
+    pub len: usize,
+    pub iei: u8,
+    pub place: usize,
+    pub placed: Placed,
+}
+
+// What stands at a position: an element and where reading is behind it; an unknown element that is cut short and must be
+// understood, by its start, first octet and octets to the end; or the end.
+pub enum Step {
+    Next(Element, State),
+    Cut(usize, u8, usize),
+    End,
+}
+
+// The IEI of a first octet: from 0x80 up the top four bits, with zeros below.
+pub fn iei_of(x: u8) -> u8
+    ensures { λ r. ⌜ r ≡ ieiOf x ⌝ }
+{
+    if x >= 0x80 {
+        return x / 16 * 16;
+    }
+    x
+}
+
+// The value rule: an empty value, or one whose first octet's low three bits are in the set.
+fn receivable(kinds: u32, value: &[u8]) -> bool
+    ensures { λ r. ⌜ r ≡ receivable kinds (now (value .entry)) ⌝ }
+{
+    if value.len() == 0 {
+        return true;
+    }
+    (kinds >> (value[0] % 8)) % 2 == 1
+}
+
+// The octets before the value.
+fn header(form: Form) -> usize
+    ensures { λ r. ⌜ r ≡ header (formAs form) ⌝ }
+{
+    match form {
+        Form::Half => 0,
+        Form::Fixed(_) => 1,
+        Form::Tlv => 2,
+        Form::TlvE => 3,
+    }
+}
+
+// How long an element of a form is.
+fn frame(form: Form, octets: &[u8]) -> Length
+    ensures { λ r. ⌜ r ≡ lengthOf (whole (formAs form) (now (octets .entry))) ⌝ }
+{
+    match form {
+        Form::Half => fixed_length(0, octets),
+        Form::Fixed(n) => fixed_length(n, octets),
+        Form::Tlv => tlv_length(octets),
+        Form::TlvE => tlve_length(octets),
+    }
+}
+
+// The length of one octet and n octets behind it.
+fn fixed_length(n: usize, octets: &[u8]) -> Length
+    ensures { λ r. ⌜ r ≡ lengthOf (within (now (octets .entry)) (some (1 + n))) ⌝ }
+{
+    if n < octets.len() {
+        return Length::Octets(1 + n);
+    }
+    Length::CutShort
+}
+
+// Whether a complete element is one that its row takes: at least the least length, and receivable.
+fn taken_by(table: &[u32], place: usize, form: Form, element: &[u8]) -> bool
+    requires { ⌜ (formAs form ≡ Rattle.definitions.specs.Rows.form (rowAt (rowsOf (now table)) place)) × (Rattle.definitions.specs.Length.header (formAs form) ≤ length (now element)) ⌝ }
+    ensures { λ r. ⌜ r ≡ takenBy (rowAt (rowsOf (now (table .entry))) place) (now (element .entry)) ⌝ }
+{
+    if element.len() < least_at(table, place) {
+        return false;
+    }
+    let h = header(form);
+    receivable(kinds_at(table, place), &element[h..])
+}
+
+// The verdict: accepted when its row takes it, not repeated, and in sequence or the option is on; else the first reason that
+// is true.
+fn judge(option: bool, again: bool, behind: bool, taken: bool, iei: u8) -> Placed
+    ensures { λ r. ⌜ r ≡ placedFor iei (judged option again behind taken) ⌝ }
+{
+    if again {
+        return Placed::Ignored(IgnoredIeReason::Repeated);
+    }
+    if behind {
+        if option {
+            if taken {
+                return Placed::Known(iei);
+            }
+        }
+        return Placed::Ignored(IgnoredIeReason::OutOfSequence);
+    }
+    if taken {
+        return Placed::Known(iei);
+    }
+    Placed::Ignored(IgnoredIeReason::Malformed)
+}
+
+// Whether an unknown element asks to be understood.
+fn must_be_understood(x: u8) -> bool
+    ensures { λ r. ⌜ r ≡ required x ⌝ }
+{
+    match unknown_kind(x) {
+        UnknownKind::OneOctet => false,
+        UnknownKind::Required => true,
+        UnknownKind::Other => false,
+    }
+}
+
+fn higher(a: usize, b: usize) -> usize
+    ensures { λ r. ⌜ r ≡ max a b ⌝ }
+{
+    if a < b {
+        return b;
+    }
+    a
+}
+
+// An element of so many octets, and where reading is behind it.
+fn found(state: State, len: usize, iei: u8, place: usize, placed: Placed, seen: Seen, highest: usize) -> Step
+    requires { ⌜ state .at + len < 2 ^ 64 ⌝ }
+    ensures { λ r. ⌜ r ≡ foundAt (state .at) len iei place placed seen highest ⌝ }
+{
+    let at = state.at;
+    Step::Next(
+        Element {
+            start: at,
+            len,
+            iei,
+            place,
+            placed,
+        },
+        State {
+            at: at + len,
+            seen,
+            highest,
+        },
+    )
+}
+
+// An element that has a place, from its first octet on.
+fn known_element(left: &[u8], table: &[u32], place: usize, iei: u8, option: bool, state: State) -> Step
+    requires { ⌜ (place < 128) × (0 < length (now left)) × (iei ≡ ieiOf (getD (now left) 0 0)) × (state .at + length (now left) < 2 ^ 64) ⌝ }
+    ensures { λ r. ⌜ r ≡ stepOf (next (known (rowsOf (now (table .entry))) option (metOf state) (state .at) (now (left .entry)) place) (meet place (metOf state))) ⌝ }
+{
+    let form = form_at(table, place);
+    let seen = state.seen;
+    let highest = state.highest;
+    let again = seen_has(seen, place);
+    let met = seen_with(seen, place);
+    let behind = place < highest;
+    let next = higher(place, highest);
+    match frame(form, left) {
+        Length::Octets(n) => {
+            let taken = taken_by(table, place, form, &left[..n]);
+            let placed = judge(option, again, behind, taken, iei);
+            found(state, n, iei, place, placed, met, next)
+        }
+        Length::CutShort => {
+            let placed = judge(option, again, behind, false, iei);
+            found(state, left.len(), iei, place, placed, met, next)
+        }
+    }
+}
+
+// An element without a place, from its first octet on: as long as the unknown rule says; cut short, it is refused if it must be
+// understood, else takes the rest.
+fn unknown_element(left: &[u8], x: u8, iei: u8, tlve_start: u8, state: State) -> Step
+    requires { ⌜ (0 < length (now left)) × (x ≡ getD (now left) 0 0) × (iei ≡ ieiOf x) × (state .at + length (now left) < 2 ^ 64) ⌝ }
+    ensures { λ r. ⌜ r ≡ stepOf (strangerStep (metOf state) (state .at) x (now (left .entry)) (unknownLength «tlve_start» (now (left .entry)))) ⌝ }
+{
+    let seen = state.seen;
+    let highest = state.highest;
+    match generic_ie_length(left, tlve_start) {
+        Length::Octets(n) => found(state, n, iei, NO_PLACE, Placed::Unknown, seen, highest),
+        Length::CutShort => {
+            if must_be_understood(x) {
+                return Step::Cut(state.at, x, left.len());
+            }
+            found(state, left.len(), iei, NO_PLACE, Placed::Unknown, seen, highest)
+        }
+    }
+}
+
+fn wide(x: u8) -> usize
+    ensures { λ r. ⌜ r ≡ x ⌝ }
+{
+    x as usize
+}
+
+// What stands at a state's position, by a table that passes its check and its index.
+fn element_step(part: &[u8], table: &[u32], index: &[u8; 256], tlve_start: u8, option: bool, state: State) -> Step
+    requires { ⌜ Indexed (now table) (now index) ⌝ }
+    ensures { λ r. ⌜ r ≡ stepOf (step (rowsOf (now (table .entry))) «tlve_start» option (metOf state) (state .at) (drop (state .at) (now (part .entry)))) ⌝ }
+{
+    let at = state.at;
+    if at >= part.len() {
+        return Step::End;
+    }
+    let x = part[at];
+    let iei = iei_of(x);
+    let place = wide(index[wide(iei)]);
+    let left = &part[at..];
+    if place == NO_PLACE {
+        return unknown_element(left, x, iei, tlve_start, state);
+    }
+    known_element(left, table, place, iei, option, state)
+}
