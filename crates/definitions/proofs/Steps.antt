@@ -84,12 +84,12 @@ pub data Stands (t : List Row) (start : ℕ) (option : Bool) : Met → ℕ → L
       → Stands t start option m at (x ∷ xs) (known t option m at (x ∷ xs) k) (meet k m)
 
 module _ (t : List Row) (start : ℕ) (option : Bool) where
-  abbrev Stood : Met → ℕ → List ℕ → Step → Type 0
+  abbrev pub Stood : Met → ℕ → List ℕ → Step → Type 0
   Stood m at s ended = s ≡ []
   Stood m at s (cut a x n) = Unit
   Stood m at s (next e m′) = Stands t start option m at s e m′
 
-  step-stood : (m : Met) (at : ℕ) (s : List ℕ) → Stood m at s (step t start option m at s)
+  pub step-stood : (m : Met) (at : ℕ) (s : List ℕ) → Stood m at s (step t start option m at s)
   unfolding step placeStep strangerStep unknownLength octetsOf
   step-stood m at [] = refl
   step-stood m at (x ∷ xs) = go (placeOf t (ieiOf x)) refl

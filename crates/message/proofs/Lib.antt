@@ -3,3 +3,6 @@ pub mod Sets
 pub mod Frames
 pub mod Known
 pub mod Steps
+pub mod Nexts
+pub mod Tallies
+pub mod Counting

@@ -22,8 +22,10 @@ including-fits n k set h l = by (eqb (set / 2 ^ k % 2) 1) refl
   where
     d : ℕ
     d = n - suc k
+
     top : 2 ^ n ≡ 2 ^ (suc d + k)
     top = let e : n ≡ suc d + k = omega arith in ap (λ (i : ℕ). 2 ^ i) e
+
     by : (b : Bool) → eqb (set / 2 ^ k % 2) 1 ≡ b → pick b set (set + 2 ^ k) < 2 ^ n
     by true e = l
     by false e =
@@ -81,7 +83,7 @@ module _ (hi lo : ℕ) (l : lo < 2 ^ 64) where
     unfolding bit
     bit-high =
         let e : both / 2 ^ k ≡ hi / 2 ^ (k - 64) =
-            ap (λ (i : ℕ). both / 2 ^ i) at-64 ∙ sym (shr-shr both 64 (k - 64)) ∙ ap (λ (x : ℕ). x / 2 ^ (k - 64)) (high hi 64 l) in
+        ap (λ (i : ℕ). both / 2 ^ i) at-64 ∙ sym (shr-shr both 64 (k - 64)) ∙ ap (λ (x : ℕ). x / 2 ^ (k - 64)) (high hi 64 l) in
         ap (λ (x : ℕ). eqb (x % 2) 1) e
 
     pub including-high : including k both ≡ including (k - 64) hi * 2 ^ 64 + lo
@@ -90,6 +92,7 @@ module _ (hi lo : ℕ) (l : lo < 2 ^ 64) where
       where
         p : 2 ^ k ≡ 2 ^ 64 * 2 ^ (k - 64)
         p = ap (λ (i : ℕ). 2 ^ i) at-64 ∙ pow-add 2 64 (k - 64)
+
         by : (b : Bool) → pick b both (both + 2 ^ k) ≡ pick b hi (hi + 2 ^ (k - 64)) * 2 ^ 64 + lo
         by true = refl
         by false = omega (arith, p)

@@ -1,3 +1,4 @@
 -- What the answers of this crate are by the definitions.
 pub mod Seen
 pub mod Steps
+pub mod Measures

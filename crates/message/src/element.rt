@@ -1,20 +1,19 @@
 // One element at a time: how long it is, whether its row takes it, and its verdict.
+use crate::seen::Seen;
 use crate::seen::seen_has;
 use crate::seen::seen_with;
-use crate::seen::Seen;
 use logs::ie_order::IgnoredIeReason;
 use logs::ie_order::Placed;
+use logs::length::Length;
+use logs::length::UnknownKind;
 use logs::length::generic_ie_length;
 use logs::length::tlv_length;
 use logs::length::tlve_length;
 use logs::length::unknown_kind;
-use logs::length::Length;
-use logs::length::UnknownKind;
+use tables::rows::Form;
 use tables::rows::form_at;
 use tables::rows::kinds_at;
 use tables::rows::least_at;
-use tables::rows::Form;
-
 ghost use mathlib.Core.Path.{_≡_};
 ghost use mathlib.Core.Option.{some};
 ghost use Prim.Native.Nat.{_+_, _≤_, _<_, _^_, max};
@@ -163,7 +162,15 @@ fn higher(a: usize, b: usize) -> usize
 }
 
 // An element of so many octets, and where reading is behind it.
-fn found(state: State, len: usize, iei: u8, place: usize, placed: Placed, seen: Seen, highest: usize) -> Step
+fn found(
+    state: State,
+    len: usize,
+    iei: u8,
+    place: usize,
+    placed: Placed,
+    seen: Seen,
+    highest: usize,
+) -> Step
     requires { ⌜ state .at + len < 2 ^ 64 ⌝ }
     ensures { λ r. ⌜ r ≡ foundAt (state .at) len iei place placed seen highest ⌝ }
 {
@@ -185,7 +192,14 @@ fn found(state: State, len: usize, iei: u8, place: usize, placed: Placed, seen: 
 }
 
 // An element that has a place, from its first octet on.
-fn known_element(left: &[u8], table: &[u32], place: usize, iei: u8, option: bool, state: State) -> Step
+fn known_element(
+    left: &[u8],
+    table: &[u32],
+    place: usize,
+    iei: u8,
+    option: bool,
+    state: State,
+) -> Step
     requires { ⌜ (place < 128) × (0 < length (now left)) × (iei ≡ ieiOf (getD (now left) 0 0)) × (state .at + length (now left) < 2 ^ 64) ⌝ }
     ensures { λ r. ⌜ r ≡ stepOf (next (known (rowsOf (now (table .entry))) option (metOf state) (state .at) (now (left .entry)) place) (meet place (metOf state))) ⌝ }
 {
@@ -223,7 +237,15 @@ fn unknown_element(left: &[u8], x: u8, iei: u8, tlve_start: u8, state: State) ->
             if must_be_understood(x) {
                 return Step::Cut(state.at, x, left.len());
             }
-            found(state, left.len(), iei, NO_PLACE, Placed::Unknown, seen, highest)
+            found(
+                state,
+                left.len(),
+                iei,
+                NO_PLACE,
+                Placed::Unknown,
+                seen,
+                highest,
+            )
         }
     }
 }
@@ -235,7 +257,14 @@ fn wide(x: u8) -> usize
 }
 
 // What stands at a state's position, by a table that passes its check and its index.
-fn element_step(part: &[u8], table: &[u32], index: &[u8; 256], tlve_start: u8, option: bool, state: State) -> Step
+pub(crate) fn element_step(
+    part: &[u8],
+    table: &[u32],
+    index: &[u8; 256],
+    tlve_start: u8,
+    option: bool,
+    state: State,
+) -> Step
     requires { ⌜ Indexed (now table) (now index) ⌝ }
     ensures { λ r. ⌜ r ≡ stepOf (step (rowsOf (now (table .entry))) «tlve_start» option (metOf state) (state .at) (drop (state .at) (now (part .entry)))) ⌝ }
 {

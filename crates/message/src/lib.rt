@@ -1,3 +1,4 @@
 // Reading and writing the elements of a message by a table.
 pub mod element;
+pub mod measure;
 pub mod seen;

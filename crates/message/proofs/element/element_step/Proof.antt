@@ -53,19 +53,19 @@ unknown-element-requires c κs = rw to-end (simp length-drop (omega arith), sym 
 
 returns-2 : tie.Need-returns-2
 unfolding placeStep
-returns-2 c = 
+returns-2 c =
     let x = getD (c .before .before .before .before .before .before .before .before .before .before .before .args .part .now) (c .before .before .before .before .before .before .before .before .before .before .before .args .state .at) 0 in
     let p : placeOf (rowsOf (c .before .before .before .before .before .before .before .before .before .before .before .args .table .now)) (ieiOf x) ≡ none = no-place _ _ (c .before .before .before .before .before .before .before .before .before .before .before .pre) (ieiOf x) (octet (c .before .before .before .before .before .before)) (sym (entry (c .before .before .before)) ∙ c .before .if2 .taken) in
     rw (step-some (rowsOf (c .before .before .before .before .before .before .before .before .before .before .before .args .table .now)) (c .before .before .before .before .before .before .before .before .before .before .before .args .tlve-start) (c .before .before .before .before .before .before .before .before .before .before .before .args .option) (metOf (c .before .before .before .before .before .before .before .before .before .before .before .args .state)) (c .before .before .before .before .before .before .before .before .before .before .before .args .state .at) (drop (c .before .before .before .before .before .before .before .before .before .before .before .args .state .at) (c .before .before .before .before .before .before .before .before .before .before .before .args .part .now)) (simp length-drop (omega arith)), left-first, p) (rw to-end at (c .unknown-element .ensures))
 
 known-element-requires : tie.Need-known-element-requires
-known-element-requires c κs = 
+known-element-requires c κs =
     let q = some-place _ _ (c .before .before .before .before .before .before .before .before .before .before .pre) _ (octet (c .before .before .before .before .before)) (λ e. c .if2 .left (entry (c .before .before) ∙ e)) in
     rw to-end (rw (entry (c .before .before)) (q .1), simp length-drop (omega arith), rw left-first (c .before .before .before .before .before .iei-of .ensures), simp length-drop (omega arith))
 
 returns-3 : tie.Need-returns-3
 unfolding placeStep
-returns-3 c = 
+returns-3 c =
     let x = getD (c .before .before .before .before .before .before .before .before .before .before .before .args .part .now) (c .before .before .before .before .before .before .before .before .before .before .before .args .state .at) 0 in
     let q = some-place _ _ (c .before .before .before .before .before .before .before .before .before .before .before .pre) (ieiOf x) (octet (c .before .before .before .before .before .before)) (λ e. c .before .if2 .left (entry (c .before .before .before) ∙ e)) in
     let p : placeOf (rowsOf (c .before .before .before .before .before .before .before .before .before .before .before .args .table .now)) (ieiOf x) ≡ some (c .before .before .before .wide2 .result) = q .0 ∙ ap some (sym (entry (c .before .before .before))) in

@@ -70,12 +70,12 @@ found-requires-2 : tie.Need-found-requires-2
 found-requires-2 c κs = search needs
 
 returns : tie.Need-returns
-returns c = 
+returns c =
     let s = c .before .before .before .before .before .before .before .before .before .seen-with .ensures ∙ ap seenOf (placed (c .before .before .before .before .before .before .before .before .before .before .before .before .before .before .before)) in
     rw (c .found .ensures, c .before .judge .ensures, c .before .before .taken-by .ensures, c .before .before .before .before .before .before .before .before .before .before .seen-has .ensures, s, c .before .before .before .before .before .before .before .before .higher .ensures, c .before .before .before .before .before .before .before .before .before .before .before .before .before .before .before .pre .2) (known-there (rowsOf (c .before .before .before .before .before .before .before .before .before .before .before .before .before .before .before .args .table .now)) (c .before .before .before .before .before .before .before .before .before .before .before .before .before .before .before .args .option) (c .before .before .before .before .before .before .before .before .before .before .before .before .before .before .before .args .state) (c .before .before .before .before .before .before .before .before .before .before .before .before .before .before .before .args .left .now) (c .before .before .before .before .before .before .before .before .before .before .before .before .before .before .before .args .place) (c .before .before .before .before .before .before .before .before .before .before .before .before .before .before .before .pre .1) _ (whole-is (c .before .before .before .before)))
 
 returns-2 : tie.Need-returns-2
-returns-2 c = 
+returns-2 c =
     let s = c .before .before .before .before .before .before .seen-with .ensures ∙ ap seenOf (placed (c .before .before .before .before .before .before .before .before .before .before .before .before)) in
     let e : whole (form (rowAt (rowsOf (c .before .before .before .before .before .before .before .before .before .before .before .before .args .table .now)) (c .before .before .before .before .before .before .before .before .before .before .before .before .args .place))) (c .before .before .before .before .before .before .before .before .before .before .before .before .args .left .now) ≡ none = rw (c .before .before .before .before .before .before .before .before .before .form-at .ensures) at (length-cut (whole (formAs (c .before .before .before .before .before .before .before .before .before .form-at .result)) (c .before .before .before .before .before .before .before .before .before .before .before .before .args .left .now)) (sym (c .before .before .enum-told .given .1) ∙ c .before .before .before .before .frame .ensures)) in
     rw (c .found2 .ensures, c .before .judge2 .ensures, c .before .before .before .before .before .before .before .seen-has .ensures, s, c .before .before .before .before .before .higher .ensures, c .before .before .before .before .before .before .before .before .before .before .before .before .pre .2) (known-cut (rowsOf (c .before .before .before .before .before .before .before .before .before .before .before .before .args .table .now)) (c .before .before .before .before .before .before .before .before .before .before .before .before .args .option) (c .before .before .before .before .before .before .before .before .before .before .before .before .args .state) (c .before .before .before .before .before .before .before .before .before .before .before .before .args .left .now) (c .before .before .before .before .before .before .before .before .before .before .before .before .args .place) (c .before .before .before .before .before .before .before .before .before .before .before .before .pre .1) e)

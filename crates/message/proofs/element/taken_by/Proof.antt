@@ -36,7 +36,7 @@ receivable-requires : tie.Need-receivable-requires
 receivable-requires c κs = search needs
 
 returns-2 : tie.Need-returns-2
-returns-2 c = 
+returns-2 c =
     let a = c .before .before .before .before .before .before .before .before .args in
     let r = rowAt (rowsOf (a .table .now)) (a .place) in
     let h : c .before .before .before .header .result ≡ header (form r) = c .before .before .before .header .ensures ∙ ap header (c .before .before .before .before .before .before .before .before .pre .0) in

@@ -37,14 +37,14 @@ found-requires-2 : tie.Need-found-requires-2
 found-requires-2 c κs = search needs
 
 returns-2 : tie.Need-returns-2
-returns-2 c = 
+returns-2 c =
     let e = length-is _ (sym (c .before .before .n .given .1) ∙ c .before .before .before .before .generic-ie-length .ensures) in
     let k = unknown-fits (c .before .before .before .before .before .before .before .args .tlve-start) (c .before .before .before .before .before .before .before .args .left .now) e in
     let i : c .before .before .before .before .before .before .before .args .iei ≡ ieiOf (getD (c .before .before .before .before .before .before .before .args .left .now) 0 0) = c .before .before .before .before .before .before .before .pre .2 ∙ ap ieiOf (c .before .before .before .before .before .before .before .pre .1) in
     rw (e, c .found .ensures, i) (stranger-there (c .before .before .before .before .before .before .before .args .state) (omega arith) (c .before .before .before .before .before .before .before .args .left .now) (c .before .before .before .before .before .before .before .pre .0) (c .before .before .before .before .before .before .before .args .x) _ (k .0) (k .1))
 
 returns-3 : tie.Need-returns-3
-returns-3 c = 
+returns-3 c =
     let i : c .before .before .before .before .before .before .before .before .args .iei ≡ ieiOf (getD (c .before .before .before .before .before .before .before .before .args .left .now) 0 0) = c .before .before .before .before .before .before .before .before .pre .2 ∙ ap ieiOf (c .before .before .before .before .before .before .before .before .pre .1) in
     rw (length-cut (unknownLength (c .before .before .before .before .before .before .before .before .args .tlve-start) (c .before .before .before .before .before .before .before .before .args .left .now)) (sym (c .before .before .before .enum-told .given .1) ∙ c .before .before .before .before .before .generic-ie-length .ensures), c .found2 .ensures, i) (stranger-rest (c .before .before .before .before .before .before .before .before .args .state) (omega arith) (c .before .before .before .before .before .before .before .before .args .left .now) (c .before .before .before .before .before .before .before .before .pre .0) (c .before .before .before .before .before .before .before .before .args .x) (sym (c .before .before .must-be-understood .ensures) ∙ c .before .if1 .left))
 
