@@ -2,12 +2,12 @@
 -- Each is a regrouping of take, drop and ++.
 use Prim.Native.Nat.{ℕ, zero, suc, _+_, _-_, _≤_, _<_, min}
 use native.Mathlib.Omega.{arith}
-use native.Mathlib.Numerals.{add-one}
+use native.Mathlib.Numerals.{add-one, add-two}
 use native.Mathlib.Nat.{add-comm}
 use mathlib.Core.Path.{_≡_, refl, ap, ap₂, sym, _∙_}
 use mathlib.Core.List.{List, [], _∷_, _++_, append-assoc, append-nil}
-use lib.ListN.{length, getD, take, drop, set, length-take, length-drop, length-append, drop-of-length-le}
-use lib.Seq.{drop-cons, take-suc, set-at, drop-drop, take-all, drop-at, take-at, length-take-le, take-append-seam, drop-append-seam}
+use lib.ListN.{length, getD, take, drop, set, replicate, length-replicate, getD-replicate, take-append-drop, length-take, length-drop, length-append, drop-of-length-le}
+use lib.Seq.{drop-cons, take-suc, set-at, drop-drop, take-all, drop-at, take-at, length-take-le, take-append-seam, drop-append-seam, sets-eq}
 use borrow.Rule.Slice.PartMut.{putMid, postOf}
 use Rattle.definitions.specs.Basic.{over, overAt}
 
@@ -102,3 +102,21 @@ put-behind a b d {c = c} {d′ = d′} i e h q =
 pub first-rest : (s : List ℕ) → 1 ≤ length s → getD s 0 0 ∷ take (length s - 1) (drop 1 s) ≡ s
 first-rest [] h = absurd (omega arith)
 first-rest (x ∷ s) h = ap (λ (t : List ℕ). x ∷ t) (take-all (suc (length s) - 1) s (omega arith))
+
+-- nothing written from a position on
+pub over-none : (n : ℕ) (d : List ℕ) → overAt n [] d ≡ d
+unfolding overAt over
+over-none n d = take-append-drop n d
+
+-- three numbers stored from a position on
+pub set-three : (n a b c : ℕ) (d : List ℕ) → n + 3 ≤ length d → set (set (set d n a) (n + 1) b) (n + 2) c ≡ overAt n (a ∷ b ∷ c ∷ []) d
+unfolding overAt over
+set-three n a b c d h =
+    let e : drop 3 (drop n d) ≡ drop (n + 3) d = drop-drop 3 n d in
+    rw (add-one n, add-two n, e) (sets-eq (a ∷ b ∷ c ∷ []) d n h ∙ append-assoc (take n d) (a ∷ b ∷ c ∷ []) (drop (n + 3) d))
+
+-- one zero more at the front
+pub zero-step : (n i : ℕ) (d : List ℕ) → i < n → i < length d → set (take i (replicate n 0) ++ drop i d) i 0 ≡ take (i + 1) (replicate n 0) ++ drop (i + 1) d
+zero-step n i d h g =
+    let l : i < length (replicate {A = ℕ} n 0) = rw (length-replicate {A = ℕ} n 0) h in
+    rw (getD-replicate {A = ℕ} n i 0 0 h) at (copy-step (replicate n 0) d i l g)

@@ -6,8 +6,8 @@ use mathlib.Core.List.{List, [], _∷_}
 use lib.ListN.{length, getD}
 use borrow.Author.Tests.{le-leb}
 use Rattle.definitions.specs.Basic.{over}
-use Rattle.logs.specs.Kept.{ifRoom}
-use Rattle.definitions.specs.Logs.{Reason, byForm, again, late, ignored, orderEntry}
+use Rattle.logs.specs.Kept.{ifRoom, keptInto}
+use Rattle.definitions.specs.Logs.{Reason, byForm, again, late, ignored, orderEntry, keptEntry}
 
 pub one-octet : (r : Reason) → orderEntry (ignored r) ≡ getD (orderEntry (ignored r)) 0 0 ∷ []
 unfolding orderEntry
@@ -21,3 +21,7 @@ one-length r = ap length (one-octet r)
 pub if-room : (s d : List ℕ) → length s ≤ length d → ifRoom s d ≡ over s d
 unfolding ifRoom
 if-room s d h = rw (le-leb (length s) (length d) h)
+
+pub kept-into : (e d : List ℕ) → 1 ≤ length e → length e ≤ 65535 → length (keptEntry e) ≤ length d → keptInto e d ≡ over (keptEntry e) d
+unfolding keptInto
+kept-into e d h g r = rw (le-leb 1 (length e) h, le-leb (length e) 65535 g) (if-room (keptEntry e) d r)

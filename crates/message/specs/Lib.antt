@@ -2,3 +2,4 @@
 pub mod Seen
 pub mod Steps
 pub mod Measures
+pub mod Fills

@@ -74,7 +74,7 @@ fn receivable(kinds: u32, value: &[u8]) -> bool
 }
 
 // The octets before the value.
-fn header(form: Form) -> usize
+pub(crate) fn header(form: Form) -> usize
     ensures { λ r. ⌜ r ≡ header (formAs form) ⌝ }
 {
     match form {

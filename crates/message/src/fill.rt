@@ -1,0 +1,99 @@
+// What reading writes into the lent rows and logs, once it is known that there is room.
+use crate::element::Element;
+use crate::element::State;
+use crate::element::Step;
+use crate::element::element_step;
+use crate::element::header;
+use crate::seen::Seen;
+use logs::ie_order::Placed;
+use logs::ie_order::entry_len;
+use logs::ie_order::put_placed;
+use logs::unknown_ies::count_len;
+use logs::unknown_ies::put_raw;
+use octets::part;
+use tables::rows::form_at;
+ghost use mathlib.Core.Path.{_≡_};
+ghost use Prim.Native.Nat.{_+_, _*_, _≤_, _<_};
+ghost use lib.ListN.{length, replicate};
+ghost use mathlib.Core.List.{[], _∷_};
+ghost use Rattle.definitions.specs.Basic.{over, overAt};
+ghost use Rattle.definitions.specs.Rows.{rowsOf};
+ghost use Rattle.definitions.specs.Logs.{keptEntry};
+ghost use Rattle.message.specs.Fills.{RowFits, rowEntered, keptOfFound, noteBy};
+
+// No number in the first n.
+fn clear_rows(rows: &mut [u32], n: usize)
+    requires { ⌜ n ≤ length (now rows) ⌝ }
+    ensures { λ r. ⌜ now (rows .exit) ≡ over (replicate n 0) (now (rows .entry)) ⌝ }
+{
+    let mut i = 0;
+    while i < n {
+        rows[i] = 0;
+        i += 1;
+    }
+}
+
+// Three numbers of a row from a position on.
+fn set_row(rows: &mut [u32], at: usize, start: u32, len: u32)
+    requires { ⌜ at + 3 ≤ length (now rows) ⌝ }
+    ensures { λ r. ⌜ now (rows .exit) ≡ overAt at (1 ∷ start ∷ len ∷ []) (now (rows .entry)) ⌝ }
+{
+    rows[at] = 1;
+    rows[at + 1] = start;
+    rows[at + 2] = len;
+}
+
+// The row of an accepted element: received, and where its value is.
+fn enter_row(rows: &mut [u32], table: &[u32], e: Element)
+    requires { ⌜ RowFits (rowsOf (now table)) e (now rows) ⌝ }
+    ensures { λ r. ⌜ now (rows .exit) ≡ rowEntered (rowsOf (now (table .entry))) e (now (rows .entry)) ⌝ }
+{
+    let placed = e.placed;
+    let place = e.place;
+    let start = e.start;
+    let len = e.len;
+    match placed {
+        Placed::Known(_) => {
+            let h = header(form_at(table, place));
+            set_row(rows, 3 * place, (start + h) as u32, (len - h) as u32);
+        }
+        Placed::Unknown => {}
+        Placed::Ignored(_) => {}
+    }
+}
+
+// An element that no row took, into the rest of the kept log; the octets then used.
+fn keep(octets: &[u8], e: Element, kept: &mut [u8], used: usize) -> usize
+    requires { ⌜ (e .start + e .len ≤ length (now octets)) × (1 ≤ e .len) × (e .len ≤ 65535) × (used + length (keptOfFound e (now octets)) ≤ length (now kept)) ⌝ }
+    ensures { λ r. ⌜ (r ≡ used + length (keptOfFound e (now (octets .entry)))) × (now (kept .exit) ≡ overAt used (keptOfFound e (now (octets .entry))) (now (kept .entry))) ⌝ }
+{
+    let placed = e.placed;
+    let start = e.start;
+    let len = e.len;
+    match placed {
+        Placed::Known(_) => used,
+        Placed::Unknown => keep_octets(part(octets, start, len), kept, used),
+        Placed::Ignored(_) => keep_octets(part(octets, start, len), kept, used),
+    }
+}
+
+// The octets of an element behind their count; the octets then used.
+fn keep_octets(element: &[u8], kept: &mut [u8], used: usize) -> usize
+    requires { ⌜ (1 ≤ length (now element)) × (length (now element) ≤ 65535) × (used + length (keptEntry (now element)) ≤ length (now kept)) ⌝ }
+    ensures { λ r. ⌜ (r ≡ used + length (keptEntry (now (element .entry)))) × (now (kept .exit) ≡ overAt used (keptEntry (now (element .entry))) (now (kept .entry))) ⌝ }
+{
+    put_raw(&mut kept[used..], element);
+    used + (count_len(element.len()) + element.len())
+}
+
+// How an element came, into the rest of the order log, unless the table says it all; the octets then used.
+fn note(placed: Placed, plain: bool, order: &mut [u8], used: usize) -> usize
+    requires { ⌜ used + length (noteBy plain placed) ≤ length (now order) ⌝ }
+    ensures { λ r. ⌜ (r ≡ used + length (noteBy plain placed)) × (now (order .exit) ≡ overAt used (noteBy plain placed) (now (order .entry))) ⌝ }
+{
+    if plain {
+        return used;
+    }
+    put_placed(&mut order[used..], placed);
+    used + entry_len(placed)
+}
