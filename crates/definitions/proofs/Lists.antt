@@ -7,7 +7,7 @@ use native.Mathlib.Nat.{add-comm}
 use mathlib.Core.Path.{_≡_, refl, ap, ap₂, sym, _∙_}
 use mathlib.Core.List.{List, [], _∷_, _++_, append-assoc, append-nil}
 use lib.ListN.{length, getD, take, drop, set, replicate, length-replicate, getD-replicate, take-append-drop, length-take, length-drop, length-append, drop-of-length-le}
-use lib.Seq.{drop-cons, take-suc, set-at, drop-drop, take-all, drop-at, take-at, length-take-le, take-append-seam, drop-append-seam, sets-eq}
+use lib.Seq.{drop-cons, take-suc, set-at, drop-drop, take-all, drop-at, take-at, length-take-le, take-append-seam, drop-append-seam, take-append-add, drop-append-add, sets-eq}
 use borrow.Rule.Slice.PartMut.{putMid, postOf}
 use Rattle.definitions.specs.Basic.{over, overAt}
 
@@ -120,3 +120,30 @@ pub zero-step : (n i : ℕ) (d : List ℕ) → i < n → i < length d → set (t
 zero-step n i d h g =
     let l : i < length (replicate {A = ℕ} n 0) = rw (length-replicate {A = ℕ} n 0) h in
     rw (getD-replicate {A = ℕ} n i 0 0 h) at (copy-step (replicate n 0) d i l g)
+
+fronted : (a d : List ℕ) → take (length a) (over a d) ≡ a
+unfolding over
+fronted a d = take-append-seam a (drop (length a) d)
+
+behinded : (a d : List ℕ) → drop (length a) (over a d) ≡ drop (length a) d
+unfolding over
+behinded a d = drop-append-seam a (drop (length a) d)
+
+-- a second piece from where the first ended
+pub over-next : (k : ℕ) (a b d : List ℕ) → k + length a ≤ length d → overAt (k + length a) b (overAt k a d) ≡ overAt k (a ++ b) d
+unfolding overAt
+over-next k a b d h =
+    let p : length (take k d) ≡ k = length-take-le k d (omega arith) in
+    let t : take (k + length a) (take k d ++ over a (drop k d)) ≡ take k d ++ a =
+    ap (λ (n : ℕ). take (n + length a) (take k d ++ over a (drop k d))) (sym p)
+    ∙ take-append-add (take k d) (over a (drop k d)) (length a) ∙ ap (λ (x : List ℕ). take k d ++ x) (fronted a (drop k d)) in
+    let r : drop (k + length a) (take k d ++ over a (drop k d)) ≡ drop (length a) (drop k d) =
+    ap (λ (n : ℕ). drop (n + length a) (take k d ++ over a (drop k d))) (sym p)
+    ∙ drop-append-add (take k d) (over a (drop k d)) (length a) ∙ behinded a (drop k d) in
+    rw (t, r, over-append a b (drop k d)) (append-assoc (take k d) a (over b (drop (length a) (drop k d))))
+
+pub length-overAt : (k : ℕ) (s d : List ℕ) → k + length s ≤ length d → length (overAt k s d) ≡ length d
+unfolding overAt
+length-overAt k s d h =
+    let l : length (over s (drop k d)) ≡ length (drop k d) = length-over s (drop k d) (simp length-drop (omega arith)) in
+    length-append (take k d) (over s (drop k d)) ∙ rw (l) (simp (length-take, length-drop) (omega arith))

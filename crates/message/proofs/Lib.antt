@@ -6,3 +6,5 @@ pub mod Steps
 pub mod Nexts
 pub mod Tallies
 pub mod Counting
+pub mod Accepted
+pub mod Filling

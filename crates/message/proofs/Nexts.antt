@@ -38,6 +38,7 @@ module _ (t : List Row) (start : ℕ) (option : Bool) (part : List ℕ) where
     pub element : DefElement
     pub is : e ≡ elementOf element
     pub stands : Stands t start option (metOf s) (s .at) (drop (s .at) part) element (metOf v)
+    pub starts : e .start ≡ s .at
     pub octets : element .octets ≡ take (e .len) (drop (s .at) part)
     pub long : length (element .octets) ≡ e .len
     pub some-octet : 1 ≤ e .len
@@ -90,6 +91,7 @@ module _ (t : List Row) (start : ℕ) (option : Bool) (part : List ℕ) where
           element = d;
           is = refl;
           stands = rw (← k) h;
+          starts = a;
           octets = f .front;
           long = refl;
           some-octet = f .some-octet;

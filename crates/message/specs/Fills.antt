@@ -3,12 +3,16 @@ use Prim.Native.Nat.{ℕ, _+_, _*_, _-_, _≤_, _<_}
 use mathlib.Core.List.{List, [], _∷_}
 use mathlib.Core.Bool.{Bool, true, false}
 use lib.ListN.{length, take, drop}
-use Rattle.definitions.specs.Basic.{overAt}
-use Rattle.definitions.specs.Rows.{Row, rowAt, form}
+use Rattle.definitions.specs.Basic.{over, overAt}
+use mathlib.Core.Path.{_≡_}
+use mathlib.Core.Option.{none}
+use Rattle.definitions.specs.Rows.{Row, rowsOf, rowAt, form, firstBad}
+use Rattle.definitions.specs.Elements.{Element as DefElement, elements, elementsOf, parted}
 use Rattle.definitions.specs.Length.{header}
-use Rattle.definitions.specs.Logs.{keptEntry, orderEntry}
+use Rattle.definitions.specs.Logs.{keptEntry, orderEntry, keptOf, entriesOf}
 use Rattle.logs.specs.Order.{placedAs}
 use Rattle.logs.specs.declared.ie_order.Placed.{Placed}
+use Rattle.message.specs.Steps.{elementOf, Indexed}
 use Rattle.message.specs.declared.element.Element.{Element}
 
 -- ---- the place rows
@@ -51,3 +55,31 @@ keptOfFound e octets = entryBy (take (e .len) (drop (e .start) octets)) (e .plac
 abbrev pub noteBy : Bool → Placed → List ℕ
 noteBy true p = []
 noteBy false p = orderEntry (placedAs p)
+
+-- ---- a whole part
+
+-- the rows with every element entered, one after the other
+unfoldable pub enteredAll : List Row → List DefElement → List ℕ → List ℕ
+enteredAll t [] rows = rows
+enteredAll t (e ∷ es) rows = enteredAll t es (rowEntered t (elementOf e) rows)
+
+-- the order log, unless the table says it all
+abbrev pub notesOf : Bool → List DefElement → List ℕ
+notesOf true es = []
+notesOf false es = entriesOf es
+
+-- a part that decodes, under a table that passes and its index, with room for what it needs
+pub record Ready (table index : List ℕ) (start : ℕ) (option plain : Bool) (part rows kept order : List ℕ) : Type 0 where
+  pub indexed : Indexed table index
+  pub passes : firstBad (rowsOf table) ≡ none
+  pub short : length part ≤ 65535
+  pub decodes : parted (rowsOf table) start option part ≡ elements (elementsOf (parted (rowsOf table) start option part))
+  pub rows-room : 3 * length (rowsOf table) ≤ length rows
+  pub kept-room : length (keptOf (elementsOf (parted (rowsOf table) start option part))) ≤ length kept
+  pub order-room : length (notesOf plain (elementsOf (parted (rowsOf table) start option part))) ≤ length order
+
+-- what filling leaves
+pub record Filled (t : List Row) (plain : Bool) (es : List DefElement) (rows kept order rows′ kept′ order′ : List ℕ) : Type 0 where
+  pub rows-are : rows′ ≡ enteredAll t es rows
+  pub kept-is : kept′ ≡ over (keptOf es) kept
+  pub order-is : order′ ≡ over (notesOf plain es) order

@@ -19,7 +19,8 @@ ghost use mathlib.Core.List.{[], _∷_};
 ghost use Rattle.definitions.specs.Basic.{over, overAt};
 ghost use Rattle.definitions.specs.Rows.{rowsOf};
 ghost use Rattle.definitions.specs.Logs.{keptEntry};
-ghost use Rattle.message.specs.Fills.{RowFits, rowEntered, keptOfFound, noteBy};
+ghost use Rattle.definitions.specs.Elements.{elementsOf, parted};
+ghost use Rattle.message.specs.Fills.{RowFits, rowEntered, keptOfFound, noteBy, Ready, Filled};
 
 // No number in the first n.
 fn clear_rows(rows: &mut [u32], n: usize)
@@ -96,4 +97,45 @@ fn note(placed: Placed, plain: bool, order: &mut [u8], used: usize) -> usize
     }
     put_placed(&mut order[used..], placed);
     used + entry_len(placed)
+}
+
+// Every element of a part that decodes, into rows and logs that have room.
+fn fill_elements(
+    octets: &[u8],
+    table: &[u32],
+    index: &[u8; 256],
+    tlve_start: u8,
+    option: bool,
+    plain: bool,
+    rows: &mut [u32],
+    kept: &mut [u8],
+    order: &mut [u8],
+)
+    requires { ⌜ Ready (now table) (now index) «tlve_start» option plain (now octets) (now rows) (now kept) (now order) ⌝ }
+    ensures { λ r. ⌜ Filled (rowsOf (now (table .entry))) plain (elementsOf (parted (rowsOf (now (table .entry))) «tlve_start» option (now (octets .entry)))) (now (rows .entry)) (now (kept .entry)) (now (order .entry)) (now (rows .exit)) (now (kept .exit)) (now (order .exit)) ⌝ }
+{
+    let mut state = State {
+        at: 0,
+        seen: Seen { low: 0, high: 0 },
+        highest: 0,
+    };
+    let mut k = 0;
+    let mut o = 0;
+    loop {
+        match element_step(octets, table, index, tlve_start, option, state) {
+            Step::Next(e, next) => {
+                let placed = e.placed;
+                enter_row(rows, table, e);
+                k = keep(octets, e, kept, k);
+                o = note(placed, plain, order, o);
+                state = next;
+            }
+            Step::Cut(_, _, _) => {
+                return;
+            }
+            Step::End => {
+                return;
+            }
+        }
+    }
 }
