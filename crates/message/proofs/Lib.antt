@@ -8,3 +8,4 @@ pub mod Tallies
 pub mod Counting
 pub mod Accepted
 pub mod Filling
+pub mod Entered
