@@ -1,13 +1,21 @@
--- The rows of a lent table by their numbers: which numbers row k is made of, and how many rows there are.
--- By induction on the count that bounds the recursion, once for every count that is large enough.
+-- The rows of a lent table by their numbers: which numbers row k is made of, and how many rows there are; the index of a table.
+-- By induction on the count that bounds the recursion, once for every count that is large enough; the index by its entries.
 use Prim.Native.Nat.{ℕ, zero, suc, _+_, _-_, _*_, _/_, _≤_, _<_, min}
 use native.Mathlib.Omega.{arith}
 use mathlib.Core.Path.{_≡_, refl, ap, sym, _∙_}
-use mathlib.Core.List.{List, [], _∷_}
+use mathlib.Core.List.{List, [], _∷_, _++_}
+use mathlib.Core.Logic.{_⊎_, inl, inr, ⊎-elim}
+use mathlib.Core.Option.{Option, none, some, Option·getD}
+use mathlib.Core.Bool.{Bool, true, false, _&&_}
+use native.Mathlib.Nat.{suc-add, add-suc, add-zero, zero-add}
+use lib.Dec.{eqb, ltb, leb}
+use borrow.Author.Tests.{ltb-true, ne-eqb}
 use lib.ListN.{length, getD, take, drop, length-drop, length-take, List·getD-eq-default}
 use lib.Seq.{drop-drop, drop-nil, getD-take, getD-drop}
-use Rattle.definitions.specs.Rows.{Row, Form, half, fixed, tlv, tlv-e, width, rowOf, rowsF, rowsOf, rowAt, ieis, firstIei, formOf}
-use Rattle.definitions.specs.Mandatory.{MandatoryRow, MandatoryForm, lv-e, mandatoryRowsF, mandatoryRowsOf, mandatoryRowAt, mandatoryFormOf}
+use Rattle.definitions.specs.Rows.{Row, tlv-e, width, rowOf, rowsF, rowsOf, rowAt, ieis, formOf, goodRow, mostPlaces, firstBadFrom, firstBad, placeOf, ieiOf, noPlace, indexEntry, indexFrom, index, placeIn}
+use Rattle.definitions.specs.Basic.{pick}
+use Rattle.definitions.proofs.RowLaws.{both, listed}
+use Rattle.definitions.specs.Mandatory.{MandatoryRow, lv-e, mandatoryRowsF, mandatoryRowsOf, mandatoryRowAt, mandatoryFormOf}
 
 -- a number past the end
 pub past : (n : ℕ) (s : List ℕ) (k : ℕ) → length s ≤ n + k → getD (drop n s) k 0 ≡ 0
@@ -114,3 +122,63 @@ mandatory-form-long (suc zero) n h = absurd (omega arith)
 mandatory-form-long (suc (suc zero)) n h = absurd (omega arith)
 mandatory-form-long (suc (suc (suc zero))) n h = absurd (omega arith)
 mandatory-form-long (suc (suc (suc (suc c)))) n h = refl
+
+-- ---- the index
+
+from-length : (t : List Row) (k n : ℕ) → length (indexFrom t k n) ≡ n
+unfolding indexFrom
+from-length t k zero = refl
+from-length t k (suc n) = ap suc (from-length t (suc k) n)
+
+pub index-length : (t : List Row) → length (index t) ≡ 256
+unfolding index
+index-length t = from-length t 0 256
+
+from-at : (t : List Row) (k n x d : ℕ) → x < n → getD (indexFrom t k n) x d ≡ indexEntry t (k + x)
+unfolding indexFrom
+from-at t k zero x d h = absurd (omega arith)
+from-at t k (suc n) zero d h = ap (indexEntry t) (sym (add-zero k))
+from-at t k (suc n) (suc x) d h = from-at t (suc k) n x d (omega arith) ∙ ap (indexEntry t) (suc-add k x ∙ sym (add-suc k x))
+
+pub index-at : (t : List Row) (x d : ℕ) → x < 256 → getD (index t) x d ≡ indexEntry t x
+unfolding index
+index-at t x d h = from-at t 0 256 x d h ∙ ap (indexEntry t) (zero-add x)
+
+-- a table that passes has at most 128 places
+few-from : (k : ℕ) (used : List ℕ) (t : List Row) → firstBadFrom k used t ≡ none → length t ≡ 0 ⊎ (k + length t ≤ 128)
+unfolding firstBadFrom
+few-from k used [] p = inl refl
+few-from k used (r ∷ rs) p = go (ltb k mostPlaces && goodRow used r) refl p (few-from (suc k) (ieis r ++ used) rs)
+  where
+    go : (b : Bool) → (ltb k mostPlaces && goodRow used r) ≡ b → pick b (firstBadFrom (suc k) (ieis r ++ used) rs) (some k) ≡ none
+        → (firstBadFrom (suc k) (ieis r ++ used) rs ≡ none → length rs ≡ 0 ⊎ (suc k + length rs ≤ 128)) → length (r ∷ rs) ≡ 0 ⊎ (k + length (r ∷ rs) ≤ 128)
+    go false e p n = let z : _≡_ {A = ℕ} 0 1 = cc in absurd (omega arith)
+    go true e p n =
+        let h : k < 128 = ltb-true k mostPlaces (both (ltb k mostPlaces) (goodRow used r) e .0) in
+        inr (⊎-elim (λ z. omega arith) (λ z. omega arith) (n p))
+
+pub few-places : (t : List Row) → firstBad t ≡ none → length t ≤ 128
+unfolding firstBad
+few-places t p = ⊎-elim (λ z. omega arith) (λ z. omega arith) (few-from 0 [] t p)
+
+-- its index says of each IEI what the table says: the place, or none
+pub index-place : (t : List Row) → firstBad t ≡ none → (iei : ℕ) → iei < 256 → placeIn (index t) iei ≡ placeOf t iei
+unfolding placeIn indexEntry
+index-place t p iei h = rw (index-at t iei noPlace h) (go (placeOf t iei) refl)
+  where
+    go : (o : Option ℕ) → placeOf t iei ≡ o → pick (eqb (min noPlace (Option·getD o noPlace)) noPlace) none (some (min noPlace (Option·getD o noPlace))) ≡ o
+    go none e = refl
+    go (some k) e =
+        let l : k < length t = listed t iei k p e .inside in
+        let f : length t ≤ 128 = few-places t p in
+        let m : min noPlace k ≡ k = omega arith in
+        rw (m, ne-eqb k noPlace (omega arith))
+
+-- the IEI of an octet is an octet
+pub iei-octet : (x : ℕ) → x < 256 → ieiOf x < 256
+unfolding ieiOf
+iei-octet x h = go (leb 128 x)
+  where
+    go : (b : Bool) → pick b (x / 16 * 16) x < 256
+    go true = omega arith
+    go false = h

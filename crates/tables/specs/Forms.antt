@@ -1,5 +1,4 @@
 -- The forms of the code by those of the definitions.
-use Prim.Native.Nat.{ℕ}
 use Rattle.definitions.specs.Rows.{Form as DefForm, half, fixed, tlv, tlv-e}
 use Rattle.definitions.specs.Mandatory.{MandatoryForm as DefMandatory, lowHalf, highHalf, fixedV, lv, lv-e}
 use Rattle.tables.specs.declared.rows.Form.{Form}

@@ -1,2 +1,5 @@
 -- What the answers of this crate are by the definitions.
 pub mod Forms
+pub mod Marks
+pub mod Answers
+pub mod Real
