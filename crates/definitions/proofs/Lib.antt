@@ -11,3 +11,4 @@ pub mod FrameLaws
 pub mod LogLaws
 pub mod BitLaws
 pub mod Orders
+pub mod Readings

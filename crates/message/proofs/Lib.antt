@@ -9,3 +9,4 @@ pub mod Counting
 pub mod Accepted
 pub mod Filling
 pub mod Entered
+pub mod Decoding

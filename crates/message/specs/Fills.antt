@@ -10,6 +10,7 @@ use Rattle.definitions.specs.Rows.{Row, rowsOf, rowAt, form, firstBad}
 use Rattle.definitions.specs.Elements.{Element as DefElement, elements, elementsOf, parted}
 use Rattle.definitions.specs.Length.{header}
 use Rattle.definitions.specs.Logs.{keptEntry, orderEntry, keptOf, entriesOf}
+use Rattle.definitions.specs.Reading.{placeRows}
 use Rattle.logs.specs.Order.{placedAs}
 use Rattle.logs.specs.declared.ie_order.Placed.{Placed}
 use Rattle.message.specs.Steps.{elementOf, Indexed}
@@ -81,5 +82,11 @@ pub record Ready (table index : List ℕ) (start : ℕ) (option plain : Bool) (p
 -- what filling leaves
 pub record Filled (t : List Row) (plain : Bool) (es : List DefElement) (rows kept order rows′ kept′ order′ : List ℕ) : Type 0 where
   pub rows-are : rows′ ≡ enteredAll t es rows
+  pub kept-is : kept′ ≡ over (keptOf es) kept
+  pub order-is : order′ ≡ over (notesOf plain es) order
+
+-- what is written of a part: the rows of its places, and both logs
+pub record Written (t : List Row) (plain : Bool) (es : List DefElement) (rows kept order rows′ kept′ order′ : List ℕ) : Type 0 where
+  pub rows-are : rows′ ≡ over (placeRows t es) rows
   pub kept-is : kept′ ≡ over (keptOf es) kept
   pub order-is : order′ ≡ over (notesOf plain es) order

@@ -3,3 +3,4 @@ pub mod Seen
 pub mod Steps
 pub mod Measures
 pub mod Fills
+pub mod Decodes

@@ -12,6 +12,7 @@ use logs::unknown_ies::count_len;
 use logs::unknown_ies::put_raw;
 use octets::part;
 use tables::rows::form_at;
+use tables::rows::places;
 ghost use mathlib.Core.Path.{_≡_};
 ghost use Prim.Native.Nat.{_+_, _*_, _≤_, _<_};
 ghost use lib.ListN.{length, replicate};
@@ -20,7 +21,7 @@ ghost use Rattle.definitions.specs.Basic.{over, overAt};
 ghost use Rattle.definitions.specs.Rows.{rowsOf};
 ghost use Rattle.definitions.specs.Logs.{keptEntry};
 ghost use Rattle.definitions.specs.Elements.{elementsOf, parted};
-ghost use Rattle.message.specs.Fills.{RowFits, rowEntered, keptOfFound, noteBy, Ready, Filled};
+ghost use Rattle.message.specs.Fills.{RowFits, rowEntered, keptOfFound, noteBy, Ready, Filled, Written};
 
 // No number in the first n.
 fn clear_rows(rows: &mut [u32], n: usize)
@@ -138,4 +139,33 @@ fn fill_elements(
             }
         }
     }
+}
+
+// All that reading writes: the rows of every place, and both logs.
+pub(crate) fn fill(
+    octets: &[u8],
+    table: &[u32],
+    index: &[u8; 256],
+    tlve_start: u8,
+    option: bool,
+    plain: bool,
+    rows: &mut [u32],
+    kept: &mut [u8],
+    order: &mut [u8],
+)
+    requires { ⌜ Ready (now table) (now index) «tlve_start» option plain (now octets) (now rows) (now kept) (now order) ⌝ }
+    ensures { λ r. ⌜ Written (rowsOf (now (table .entry))) plain (elementsOf (parted (rowsOf (now (table .entry))) «tlve_start» option (now (octets .entry)))) (now (rows .entry)) (now (kept .entry)) (now (order .entry)) (now (rows .exit)) (now (kept .exit)) (now (order .exit)) ⌝ }
+{
+    clear_rows(rows, 3 * places(table));
+    fill_elements(
+        octets,
+        table,
+        index,
+        tlve_start,
+        option,
+        plain,
+        rows,
+        kept,
+        order,
+    );
 }

@@ -1,0 +1,63 @@
+-- `fill` clears the rows and enters every element.
+-- Entering every element into rows of zeros gives the rows of the places.
+use Prim.Native.Nat.{ℕ, _*_}
+use mathlib.Core.Path.{_≡_, ap, _∙_}
+use lib.ListN.{length, replicate}
+use Rattle.definitions.specs.Basic.{over}
+use Rattle.definitions.specs.Rows.{rowsOf}
+use Rattle.definitions.specs.Elements.{elementsOf, parted}
+use Rattle.message.specs.Fills.{enteredAll}
+use Rattle.message.proofs.Entered.{all-entered}
+use borrow.Author.Needs.{needs}
+use Rattle.message.proofs.fill.fill.Statement.{statement}
+use Rattle.message.proofs.fill.fill.Tie as tie
+
+places-requires : tie.Need-places-requires
+places-requires c κs = search needs
+
+mul-clear-rows : tie.Need-mul-clear-rows
+mul-clear-rows c = search needs
+
+clear-rows-requires : tie.Need-clear-rows-requires
+clear-rows-requires c κs = search needs
+
+fill-elements-requires : tie.Need-fill-elements-requires
+fill-elements-requires c κs = search needs
+
+same-length : tie.Need-same-length
+same-length c = search needs
+
+same-length-2 : tie.Need-same-length-2
+same-length-2 c = search needs
+
+same-length-3 : tie.Need-same-length-3
+same-length-3 c = search needs
+
+returns : tie.Need-returns
+returns c =
+    let a = c .before .before .before .before .before .before .before .before .before .before .before .before .before .before .before .before .before .before .before .before .args in
+    let t = rowsOf (a .table .now) in
+    let es = elementsOf (parted t (a .tlve-start) (a .option) (a .octets .now)) in
+    let f = c .before .before .before .before .before .before .fill-elements .ensures in
+    let n : c .before .before .before .before .before .before .before .before .before .before .before .before .before .places .result ≡ length t = c .before .before .before .before .before .before .before .before .before .before .before .before .before .places .ensures in
+    record {
+      rows-are =
+          f .rows-are
+          ∙ ap (enteredAll t es) (c .before .before .before .before .before .before .before .before .before .before .before .before .clear-rows .ensures ∙ ap (λ (m : ℕ). over (replicate (3 * m) 0) (a .rows .now)) n)
+          ∙ all-entered t (c .before .before .before .before .before .before .before .before .before .before .before .before .before .before .before .before .before .before .before .before .pre .passes) (a .tlve-start) (a .option) (a .octets .now) es (c .before .before .before .before .before .before .before .before .before .before .before .before .before .before .before .before .before .before .before .before .pre .decodes) (a .rows .now);
+      kept-is = f .kept-is;
+      order-is = f .order-is;
+    }
+
+pub fill-spec : {M : Type 1} → statement M
+fill-spec =
+    tie.close
+    (tie.spec
+    places-requires
+    mul-clear-rows
+    clear-rows-requires
+    fill-elements-requires
+    same-length
+    same-length-2
+    same-length-3
+    returns)
