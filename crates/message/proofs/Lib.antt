@@ -10,3 +10,4 @@ pub mod Accepted
 pub mod Filling
 pub mod Entered
 pub mod Decoding
+pub mod Showing

@@ -5,3 +5,4 @@ pub mod Measures
 pub mod Fills
 pub mod Decodes
 pub mod Nexts
+pub mod Shows

@@ -5,3 +5,4 @@ pub mod fill;
 pub mod measure;
 pub mod next;
 pub mod seen;
+pub mod show;
