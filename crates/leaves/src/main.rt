@@ -69,12 +69,12 @@ fn show_unknown(element: &[u8], order: &mut [u8], kept: &mut [u8]) {
             io::write_all(1, b" length ");
             io::print_decimal(1, n as u64);
             show_logs(part(element, 0, n), order, kept);
+            io::write_all(1, b"\n");
         }
         Length::CutShort => {
-            io::write_all(1, b" cut short");
+            io::write_all(1, b" cut short\n");
         }
     }
-    io::write_all(1, b"\n");
 }
 
 // The length of the element at a number, and the octets of its count, which stand from a position on.
