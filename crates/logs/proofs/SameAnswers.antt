@@ -1,7 +1,7 @@
 -- Equal numbers and values come from equal answers: each map from an answer of this crate to document 01's answers tells two
 -- answers apart. By cases; two constructors are never equal. Two entries are told apart by their octets.
 use mathlib.Core.Path.{_≡_, refl, sym, ap}
-use mathlib.Core.List.{List, [], _∷_}
+use mathlib.Core.List.{[]}
 use Prim.Native.Nat.{ℕ}
 use native.Mathlib.Omega.{arith}
 use Rattle.definitions.specs.Basic.{Answer}
