@@ -6,3 +6,4 @@ pub mod Asked
 pub mod Pushed
 pub mod Entries
 pub mod OrderWalks
+pub mod SameAnswers
