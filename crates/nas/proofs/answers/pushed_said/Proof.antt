@@ -1,0 +1,55 @@
+use borrow.Author.Needs.{needs}
+use Rattle.nas.proofs.answers.pushed_said.Statement.{statement}
+use Rattle.nas.proofs.answers.pushed_said.Tie as tie
+use Rattle.nas.proofs.answers.pushed_said.Reads as reads
+use Rattle.nas.proofs.answers.pushed_said.Lts as lts
+use Rattle.nas.proofs.answers.one.Reads as one-reads
+
+enum-known-pushed : tie.Need-enum-known-pushed
+enum-known-pushed c = search needs
+
+one-requires : tie.Need-one-requires
+one-requires c κs = search needs
+
+enum-told : tie.Need-enum-told
+enum-told c = search needs
+
+enum-told-2 : tie.Need-enum-told-2
+enum-told-2 c = search needs
+
+one-requires-2 : tie.Need-one-requires-2
+one-requires-2 c κs = search needs
+
+enum-told-3 : tie.Need-enum-told-3
+enum-told-3 c = search needs
+
+one-requires-3 : tie.Need-one-requires-3
+one-requires-3 c κs = search needs
+
+returns : tie.Need-returns
+returns c = ?
+
+returns-2 : tie.Need-returns-2
+returns-2 c = search needs
+
+returns-3 : tie.Need-returns-3
+returns-3 c = ?
+
+returns-4 : tie.Need-returns-4
+returns-4 c = ?
+
+pub pushed-said-spec : {M : Type 1} → statement M
+pushed-said-spec =
+    tie.close
+    (tie.spec
+    enum-known-pushed
+    one-requires
+    enum-told
+    enum-told-2
+    one-requires-2
+    enum-told-3
+    one-requires-3
+    returns
+    returns-2
+    returns-3
+    returns-4)

@@ -1,0 +1,47 @@
+use borrow.Author.Needs.{needs}
+use Rattle.nas.proofs.answers.room_said.Statement.{statement}
+use Rattle.nas.proofs.answers.room_said.Tie as tie
+use Rattle.nas.proofs.answers.room_said.Reads as reads
+use Rattle.nas.proofs.answers.room_said.Lts as lts
+use Rattle.nas.proofs.answers.one.Reads as one-reads
+
+enum-told : tie.Need-enum-told
+enum-told c = search needs
+
+one-requires : tie.Need-one-requires
+one-requires c κs = search needs
+
+enum-told-2 : tie.Need-enum-told-2
+enum-told-2 c = search needs
+
+one-requires-2 : tie.Need-one-requires-2
+one-requires-2 c κs = search needs
+
+enum-told-3 : tie.Need-enum-told-3
+enum-told-3 c = search needs
+
+one-requires-3 : tie.Need-one-requires-3
+one-requires-3 c κs = search needs
+
+returns : tie.Need-returns
+returns c = ?
+
+returns-2 : tie.Need-returns-2
+returns-2 c = ?
+
+returns-3 : tie.Need-returns-3
+returns-3 c = ?
+
+pub room-said-spec : {M : Type 1} → statement M
+room-said-spec =
+    tie.close
+    (tie.spec
+    enum-told
+    one-requires
+    enum-told-2
+    one-requires-2
+    enum-told-3
+    one-requires-3
+    returns
+    returns-2
+    returns-3)
