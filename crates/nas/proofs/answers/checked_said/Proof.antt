@@ -1,9 +1,8 @@
+-- `checked_said` gives the number and the values of a table check.
+-- Each arm names the case; its values are put by the call.
 use borrow.Author.Needs.{needs}
 use Rattle.nas.proofs.answers.checked_said.Statement.{statement}
 use Rattle.nas.proofs.answers.checked_said.Tie as tie
-use Rattle.nas.proofs.answers.checked_said.Reads as reads
-use Rattle.nas.proofs.answers.checked_said.Lts as lts
-use Rattle.nas.proofs.answers.one.Reads as one-reads
 
 enum-told : tie.Need-enum-told
 enum-told c = search needs
@@ -18,7 +17,7 @@ returns : tie.Need-returns
 returns c = search needs
 
 returns-2 : tie.Need-returns-2
-returns-2 c = ?
+returns-2 c = rw (c .before .before .before .checked .given .1) (c .one .ensures)
 
 pub checked-said-spec : {M : Type 1} → statement M
 checked-said-spec =

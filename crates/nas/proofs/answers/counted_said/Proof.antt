@@ -1,9 +1,8 @@
+-- `counted_said` gives the number and the values of a count.
+-- Each arm names the case; its values are put by the call.
 use borrow.Author.Needs.{needs}
 use Rattle.nas.proofs.answers.counted_said.Statement.{statement}
 use Rattle.nas.proofs.answers.counted_said.Tie as tie
-use Rattle.nas.proofs.answers.counted_said.Reads as reads
-use Rattle.nas.proofs.answers.counted_said.Lts as lts
-use Rattle.nas.proofs.answers.one.Reads as one-reads
 
 enum-known-counted : tie.Need-enum-known-counted
 enum-known-counted c = search needs
@@ -21,13 +20,13 @@ one-requires-2 : tie.Need-one-requires-2
 one-requires-2 c κs = search needs
 
 returns : tie.Need-returns
-returns c = ?
+returns c = rw (c .before .before .before .counted .given .1) (c .one .ensures)
 
 returns-2 : tie.Need-returns-2
 returns-2 c = search needs
 
 returns-3 : tie.Need-returns-3
-returns-3 c = ?
+returns-3 c = rw (c .before .before .enum-told2 .given .1) (c .one2 .ensures)
 
 pub counted-said-spec : {M : Type 1} → statement M
 counted-said-spec =

@@ -1,12 +1,8 @@
+-- `decoded_said` gives the number and the values of a reading.
+-- Each arm names the case; its values are put by the call.
 use borrow.Author.Needs.{needs}
 use Rattle.nas.proofs.answers.decoded_said.Statement.{statement}
 use Rattle.nas.proofs.answers.decoded_said.Tie as tie
-use Rattle.nas.proofs.answers.decoded_said.Reads as reads
-use Rattle.nas.proofs.answers.decoded_said.Lts as lts
-use Rattle.nas.proofs.answers.one.Reads as one-reads
-use Rattle.nas.proofs.answers.room_said.Reads as room-said-reads
-use Rattle.nas.proofs.answers.three.Reads as three-reads
-use Rattle.nas.proofs.answers.two.Reads as two-reads
 
 enum-known-decoded : tie.Need-enum-known-decoded
 enum-known-decoded c = search needs
@@ -42,19 +38,19 @@ enum-told-2 : tie.Need-enum-told-2
 enum-told-2 c = search needs
 
 returns : tie.Need-returns
-returns c = ?
+returns c = rw (c .before .before .before .decoded .given .1) (c .two .ensures)
 
 returns-2 : tie.Need-returns-2
-returns-2 c = ?
+returns-2 c = rw (c .before .before .before .decoded2 .given .1) (c .three .ensures)
 
 returns-3 : tie.Need-returns-3
-returns-3 c = ?
+returns-3 c = rw (c .before .before .before .decoded3 .given .1) (c .room-said .ensures)
 
 returns-4 : tie.Need-returns-4
 returns-4 c = search needs
 
 returns-5 : tie.Need-returns-5
-returns-5 c = ?
+returns-5 c = rw (c .before .before .before .decoded4 .given .1) (c .one .ensures)
 
 returns-6 : tie.Need-returns-6
 returns-6 c = search needs

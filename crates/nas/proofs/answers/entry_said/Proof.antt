@@ -1,10 +1,8 @@
+-- `entry_said` gives the number and the values of an entry asked for.
+-- Each arm names the case; its values are put by the call.
 use borrow.Author.Needs.{needs}
 use Rattle.nas.proofs.answers.entry_said.Statement.{statement}
 use Rattle.nas.proofs.answers.entry_said.Tie as tie
-use Rattle.nas.proofs.answers.entry_said.Reads as reads
-use Rattle.nas.proofs.answers.entry_said.Lts as lts
-use Rattle.nas.proofs.answers.one.Reads as one-reads
-use Rattle.nas.proofs.answers.placed_said.Reads as placed-said-reads
 
 enum-known-entry : tie.Need-enum-known-entry
 enum-known-entry c = search needs
@@ -25,7 +23,7 @@ one-requires : tie.Need-one-requires
 one-requires c κs = search needs
 
 returns : tie.Need-returns
-returns c = ?
+returns c = rw (c .before .before .before .entry .given .1) (c .placed-said .ensures)
 
 returns-2 : tie.Need-returns-2
 returns-2 c = search needs
@@ -34,7 +32,7 @@ returns-3 : tie.Need-returns-3
 returns-3 c = search needs
 
 returns-4 : tie.Need-returns-4
-returns-4 c = ?
+returns-4 c = rw (c .before .before .enum-told3 .given .1) (c .one .ensures)
 
 pub entry-said-spec : {M : Type 1} → statement M
 entry-said-spec =

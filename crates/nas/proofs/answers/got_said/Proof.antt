@@ -1,10 +1,8 @@
+-- `got_said` gives the number and the values of an element of the kept log.
+-- Each arm names the case; its values are put by the call.
 use borrow.Author.Needs.{needs}
 use Rattle.nas.proofs.answers.got_said.Statement.{statement}
 use Rattle.nas.proofs.answers.got_said.Tie as tie
-use Rattle.nas.proofs.answers.got_said.Reads as reads
-use Rattle.nas.proofs.answers.got_said.Lts as lts
-use Rattle.nas.proofs.answers.one.Reads as one-reads
-use Rattle.nas.proofs.answers.two.Reads as two-reads
 
 enum-known-got : tie.Need-enum-known-got
 enum-known-got c = search needs
@@ -25,7 +23,7 @@ one-requires : tie.Need-one-requires
 one-requires c κs = search needs
 
 returns : tie.Need-returns
-returns c = ?
+returns c = rw (c .before .before .before .got .given .1) (c .two .ensures)
 
 returns-2 : tie.Need-returns-2
 returns-2 c = search needs
@@ -34,7 +32,7 @@ returns-3 : tie.Need-returns-3
 returns-3 c = search needs
 
 returns-4 : tie.Need-returns-4
-returns-4 c = ?
+returns-4 c = rw (c .before .before .enum-told3 .given .1) (c .one .ensures)
 
 pub got-said-spec : {M : Type 1} → statement M
 got-said-spec =

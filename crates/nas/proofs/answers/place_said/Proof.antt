@@ -1,9 +1,8 @@
+-- `place_said` gives the number and the values of a place.
+-- Each arm names the case; its values are put by the call.
 use borrow.Author.Needs.{needs}
 use Rattle.nas.proofs.answers.place_said.Statement.{statement}
 use Rattle.nas.proofs.answers.place_said.Tie as tie
-use Rattle.nas.proofs.answers.place_said.Reads as reads
-use Rattle.nas.proofs.answers.place_said.Lts as lts
-use Rattle.nas.proofs.answers.one.Reads as one-reads
 
 enum-known-place : tie.Need-enum-known-place
 enum-known-place c = search needs
@@ -15,7 +14,7 @@ enum-told : tie.Need-enum-told
 enum-told c = search needs
 
 returns : tie.Need-returns
-returns c = ?
+returns c = rw (c .before .before .before .place .given .1) (c .one .ensures)
 
 returns-2 : tie.Need-returns-2
 returns-2 c = search needs

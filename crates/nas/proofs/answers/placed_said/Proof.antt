@@ -1,11 +1,9 @@
+-- `placed_said` gives the number and the values of an entry.
+-- Each arm names the case; its values are put by the call.
+use Rattle.definitions.specs.Logs.{orderEntry}
 use borrow.Author.Needs.{needs}
 use Rattle.nas.proofs.answers.placed_said.Statement.{statement}
 use Rattle.nas.proofs.answers.placed_said.Tie as tie
-use Rattle.nas.proofs.answers.placed_said.Reads as reads
-use Rattle.nas.proofs.answers.placed_said.Lts as lts
-use Rattle.nas.proofs.answers.one.Reads as one-reads
-use Rattle.nas.proofs.answers.reason_said.Reads as reason-said-reads
-use Rattle.nas.proofs.answers.two.Reads as two-reads
 
 enum-known-placed : tie.Need-enum-known-placed
 enum-known-placed c = search needs
@@ -29,13 +27,16 @@ reason-said-requires : tie.Need-reason-said-requires
 reason-said-requires c κs = search needs
 
 returns : tie.Need-returns
-returns c = ?
+unfolding orderEntry
+returns c = rw (c .before .before .before .placed .given .1) (c .two .ensures)
 
 returns-2 : tie.Need-returns-2
-returns-2 c = ?
+unfolding orderEntry
+returns-2 c = rw (c .before .before .enum-told .given .1) (c .one .ensures)
 
 returns-3 : tie.Need-returns-3
-returns-3 c = ?
+unfolding orderEntry
+returns-3 c = rw (c .before .before .before .placed2 .given .1) (c .reason-said .ensures)
 
 pub placed-said-spec : {M : Type 1} → statement M
 placed-said-spec =

@@ -1,9 +1,8 @@
+-- `pushed_said` gives the number and the values of a push.
+-- Each arm names the case; its values are put by the call.
 use borrow.Author.Needs.{needs}
 use Rattle.nas.proofs.answers.pushed_said.Statement.{statement}
 use Rattle.nas.proofs.answers.pushed_said.Tie as tie
-use Rattle.nas.proofs.answers.pushed_said.Reads as reads
-use Rattle.nas.proofs.answers.pushed_said.Lts as lts
-use Rattle.nas.proofs.answers.one.Reads as one-reads
 
 enum-known-pushed : tie.Need-enum-known-pushed
 enum-known-pushed c = search needs
@@ -27,16 +26,16 @@ one-requires-3 : tie.Need-one-requires-3
 one-requires-3 c κs = search needs
 
 returns : tie.Need-returns
-returns c = ?
+returns c = rw (c .before .before .before .pushed .given .1) (c .one .ensures)
 
 returns-2 : tie.Need-returns-2
 returns-2 c = search needs
 
 returns-3 : tie.Need-returns-3
-returns-3 c = ?
+returns-3 c = rw (c .before .before .enum-told2 .given .1) (c .one2 .ensures)
 
 returns-4 : tie.Need-returns-4
-returns-4 c = ?
+returns-4 c = rw (c .before .before .enum-told3 .given .1) (c .one3 .ensures)
 
 pub pushed-said-spec : {M : Type 1} → statement M
 pushed-said-spec =

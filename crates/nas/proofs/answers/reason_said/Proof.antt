@@ -1,9 +1,9 @@
+-- `reason_said` gives the number and the values of a reason.
+-- Each arm names the case; its values are put by the call.
+use Rattle.definitions.specs.Logs.{orderEntry}
 use borrow.Author.Needs.{needs}
 use Rattle.nas.proofs.answers.reason_said.Statement.{statement}
 use Rattle.nas.proofs.answers.reason_said.Tie as tie
-use Rattle.nas.proofs.answers.reason_said.Reads as reads
-use Rattle.nas.proofs.answers.reason_said.Lts as lts
-use Rattle.nas.proofs.answers.one.Reads as one-reads
 
 enum-told : tie.Need-enum-told
 enum-told c = search needs
@@ -24,13 +24,16 @@ one-requires-3 : tie.Need-one-requires-3
 one-requires-3 c κs = search needs
 
 returns : tie.Need-returns
-returns c = ?
+unfolding orderEntry
+returns c = rw (c .before .before .enum-told .given .1) (c .one .ensures)
 
 returns-2 : tie.Need-returns-2
-returns-2 c = ?
+unfolding orderEntry
+returns-2 c = rw (c .before .before .enum-told2 .given .1) (c .one2 .ensures)
 
 returns-3 : tie.Need-returns-3
-returns-3 c = ?
+unfolding orderEntry
+returns-3 c = rw (c .before .before .enum-told3 .given .1) (c .one3 .ensures)
 
 pub reason-said-spec : {M : Type 1} → statement M
 reason-said-spec =

@@ -1,9 +1,8 @@
+-- `room_said` gives the number and the values of a lack of room.
+-- Each arm names the case; its values are put by the call.
 use borrow.Author.Needs.{needs}
 use Rattle.nas.proofs.answers.room_said.Statement.{statement}
 use Rattle.nas.proofs.answers.room_said.Tie as tie
-use Rattle.nas.proofs.answers.room_said.Reads as reads
-use Rattle.nas.proofs.answers.room_said.Lts as lts
-use Rattle.nas.proofs.answers.one.Reads as one-reads
 
 enum-told : tie.Need-enum-told
 enum-told c = search needs
@@ -24,13 +23,13 @@ one-requires-3 : tie.Need-one-requires-3
 one-requires-3 c κs = search needs
 
 returns : tie.Need-returns
-returns c = ?
+returns c = rw (c .before .before .enum-told .given .1) (c .one .ensures)
 
 returns-2 : tie.Need-returns-2
-returns-2 c = ?
+returns-2 c = rw (c .before .before .enum-told2 .given .1) (c .one2 .ensures)
 
 returns-3 : tie.Need-returns-3
-returns-3 c = ?
+returns-3 c = rw (c .before .before .enum-told3 .given .1) (c .one3 .ensures)
 
 pub room-said-spec : {M : Type 1} → statement M
 room-said-spec =
