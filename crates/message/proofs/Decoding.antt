@@ -11,7 +11,8 @@ use Rattle.definitions.specs.Basic.{pick, Answer, answer, over, mostOctets}
 use Rattle.definitions.specs.Rows.{Row, rowsOf, firstBad, index, indexEntry, placeOf}
 use Rattle.definitions.specs.Elements.{Element, Parted, elements, cutShort, elementsOf, parted}
 use Rattle.definitions.specs.Logs.{keptOf, entriesOf, plainFrom, orderOf}
-use Rattle.definitions.specs.Reading.{Lent, Read, unread, readElements, reading, placeRows}
+use Rattle.definitions.specs.Reading.{Lent, Read, unread, readElements, reading, readingBy, placeRows}
+use Rattle.definitions.specs.Tables.{tableOf, startOf}
 use Rattle.definitions.proofs.Readings.{read-bad, read-long, read-rows, read-cut, read-kept, read-order, read-done}
 use Rattle.definitions.proofs.RowLaws.{listed}
 use Rattle.definitions.proofs.TableLaws.{index-at, few-places}
@@ -135,3 +136,29 @@ module _ (table : List ℕ) (start : ℕ) (option : Bool) (part rows kept order 
                   kept-is = w .kept-is ∙ ap (λ (x : Read). x .kept) (sym e);
                   order-is = w .order-is ∙ ap (λ (s : List ℕ). over s order) (n .notes) ∙ ap (λ (x : Read). x .order) (sym e);
                 }
+
+-- ---- by table number
+
+pub no-table : (n : ℕ) → (n ≡ 0 → ⊥) → (n ≡ 1 → ⊥) → (n ≡ 2 → ⊥) → (n ≡ 3 → ⊥) → (n ≡ 4 → ⊥) → (n ≡ 5 → ⊥) → (n ≡ 6 → ⊥) → tableOf n ≡ none
+unfolding tableOf
+no-table zero a b c d e f g = absurd (a refl)
+no-table (suc zero) a b c d e f g = absurd (b refl)
+no-table (suc (suc zero)) a b c d e f g = absurd (c refl)
+no-table (suc (suc (suc zero))) a b c d e f g = absurd (d refl)
+no-table (suc (suc (suc (suc zero)))) a b c d e f g = absurd (e refl)
+no-table (suc (suc (suc (suc (suc zero))))) a b c d e f g = absurd (f refl)
+no-table (suc (suc (suc (suc (suc (suc zero)))))) a b c d e f g = absurd (g refl)
+no-table (suc (suc (suc (suc (suc (suc (suc n))))))) a b c d e f g = refl
+
+-- a table that the number names, or none
+pub by-number : (n : ℕ) {table : List ℕ} (option : Bool) (part : List ℕ) (l : Lent) → tableOf n ≡ some table → readingBy n option part l ≡ reading table startOf option part l
+unfolding readingBy
+by-number n option part l e = rw (e, readingBy)
+
+pub by-none : (n : ℕ) (option : Bool) (part : List ℕ) (l : Lent) → tableOf n ≡ none → readingBy n option part l ≡ unread l (answer 5 [])
+unfolding readingBy
+by-none n option part l e = rw (e, readingBy)
+
+-- the same of an equal reading
+pub moved : {r r′ : Read} {d : Decoded} {rows kept order : List ℕ} → r′ ≡ r → Reads r d rows kept order → Reads r′ d rows kept order
+moved e h = rw e h

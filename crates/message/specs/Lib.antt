@@ -4,3 +4,4 @@ pub mod Steps
 pub mod Measures
 pub mod Fills
 pub mod Decodes
+pub mod Nexts

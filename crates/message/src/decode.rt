@@ -4,6 +4,20 @@ use crate::measure::Measured;
 use crate::measure::measure;
 use tables::check::Checked;
 use tables::check::check_and_index;
+use tables::real::INDEX_P;
+use tables::real::INDEX_PDU_SESSION_ESTABLISHMENT_ACCEPT;
+use tables::real::INDEX_PDU_SESSION_ESTABLISHMENT_REQUEST;
+use tables::real::INDEX_REGISTRATION_ACCEPT;
+use tables::real::INDEX_REGISTRATION_REJECT;
+use tables::real::INDEX_REGISTRATION_REQUEST;
+use tables::real::INDEX_SERVICE_REQUEST;
+use tables::real::PDU_SESSION_ESTABLISHMENT_ACCEPT;
+use tables::real::PDU_SESSION_ESTABLISHMENT_REQUEST;
+use tables::real::REGISTRATION_ACCEPT;
+use tables::real::REGISTRATION_REJECT;
+use tables::real::REGISTRATION_REQUEST;
+use tables::real::SERVICE_REQUEST;
+use tables::real::TABLE_P;
 use tables::rows::places;
 ghost use mathlib.Core.Path.{_≡_};
 ghost use mathlib.Core.Option.{none};
@@ -11,7 +25,8 @@ ghost use Prim.Native.Nat.{_*_, _≤_};
 ghost use lib.ListN.{length};
 ghost use Rattle.definitions.specs.Rows.{rowsOf, firstBad};
 ghost use Rattle.definitions.specs.Basic.{pick};
-ghost use Rattle.definitions.specs.Reading.{reading};
+ghost use Rattle.definitions.specs.Reading.{reading, readingBy};
+ghost use Rattle.tables.specs.Real.{realOf};
 ghost use Rattle.message.specs.Steps.{Indexed};
 ghost use Rattle.message.specs.Decodes.{lentOf, Reads};
 
@@ -116,5 +131,180 @@ pub fn decode_optional_ies(
             order,
         ),
         Checked::BadRow(k) => Decoded::BadTable(k),
+    }
+}
+
+// ---- by table number: 0 is P, 1 to 6 the real tables. Each has its constant index, and is proved to pass its check.
+
+// The start number of the long form, for all of them.
+const TLVE_START: u8 = 0x70;
+
+fn decode_p(
+    octets: &[u8],
+    option: bool,
+    rows: &mut [u32],
+    kept: &mut [u8],
+    order: &mut [u8],
+) -> Decoded
+    ensures { λ r. ⌜ Reads (reading (realOf 0) 112 option (now (octets .entry)) (lentOf (now (rows .entry)) (now (kept .entry)) (now (order .entry)))) r (now (rows .exit)) (now (kept .exit)) (now (order .exit)) ⌝ }
+{
+    decode_by_index(
+        octets,
+        &TABLE_P,
+        &INDEX_P,
+        TLVE_START,
+        option,
+        rows,
+        kept,
+        order,
+    )
+}
+
+fn decode_registration_request(
+    octets: &[u8],
+    option: bool,
+    rows: &mut [u32],
+    kept: &mut [u8],
+    order: &mut [u8],
+) -> Decoded
+    ensures { λ r. ⌜ Reads (reading (realOf 1) 112 option (now (octets .entry)) (lentOf (now (rows .entry)) (now (kept .entry)) (now (order .entry)))) r (now (rows .exit)) (now (kept .exit)) (now (order .exit)) ⌝ }
+{
+    decode_by_index(
+        octets,
+        &REGISTRATION_REQUEST,
+        &INDEX_REGISTRATION_REQUEST,
+        TLVE_START,
+        option,
+        rows,
+        kept,
+        order,
+    )
+}
+
+fn decode_registration_accept(
+    octets: &[u8],
+    option: bool,
+    rows: &mut [u32],
+    kept: &mut [u8],
+    order: &mut [u8],
+) -> Decoded
+    ensures { λ r. ⌜ Reads (reading (realOf 2) 112 option (now (octets .entry)) (lentOf (now (rows .entry)) (now (kept .entry)) (now (order .entry)))) r (now (rows .exit)) (now (kept .exit)) (now (order .exit)) ⌝ }
+{
+    decode_by_index(
+        octets,
+        &REGISTRATION_ACCEPT,
+        &INDEX_REGISTRATION_ACCEPT,
+        TLVE_START,
+        option,
+        rows,
+        kept,
+        order,
+    )
+}
+
+fn decode_registration_reject(
+    octets: &[u8],
+    option: bool,
+    rows: &mut [u32],
+    kept: &mut [u8],
+    order: &mut [u8],
+) -> Decoded
+    ensures { λ r. ⌜ Reads (reading (realOf 3) 112 option (now (octets .entry)) (lentOf (now (rows .entry)) (now (kept .entry)) (now (order .entry)))) r (now (rows .exit)) (now (kept .exit)) (now (order .exit)) ⌝ }
+{
+    decode_by_index(
+        octets,
+        &REGISTRATION_REJECT,
+        &INDEX_REGISTRATION_REJECT,
+        TLVE_START,
+        option,
+        rows,
+        kept,
+        order,
+    )
+}
+
+fn decode_service_request(
+    octets: &[u8],
+    option: bool,
+    rows: &mut [u32],
+    kept: &mut [u8],
+    order: &mut [u8],
+) -> Decoded
+    ensures { λ r. ⌜ Reads (reading (realOf 4) 112 option (now (octets .entry)) (lentOf (now (rows .entry)) (now (kept .entry)) (now (order .entry)))) r (now (rows .exit)) (now (kept .exit)) (now (order .exit)) ⌝ }
+{
+    decode_by_index(
+        octets,
+        &SERVICE_REQUEST,
+        &INDEX_SERVICE_REQUEST,
+        TLVE_START,
+        option,
+        rows,
+        kept,
+        order,
+    )
+}
+
+fn decode_pdu_session_establishment_request(
+    octets: &[u8],
+    option: bool,
+    rows: &mut [u32],
+    kept: &mut [u8],
+    order: &mut [u8],
+) -> Decoded
+    ensures { λ r. ⌜ Reads (reading (realOf 5) 112 option (now (octets .entry)) (lentOf (now (rows .entry)) (now (kept .entry)) (now (order .entry)))) r (now (rows .exit)) (now (kept .exit)) (now (order .exit)) ⌝ }
+{
+    decode_by_index(
+        octets,
+        &PDU_SESSION_ESTABLISHMENT_REQUEST,
+        &INDEX_PDU_SESSION_ESTABLISHMENT_REQUEST,
+        TLVE_START,
+        option,
+        rows,
+        kept,
+        order,
+    )
+}
+
+fn decode_pdu_session_establishment_accept(
+    octets: &[u8],
+    option: bool,
+    rows: &mut [u32],
+    kept: &mut [u8],
+    order: &mut [u8],
+) -> Decoded
+    ensures { λ r. ⌜ Reads (reading (realOf 6) 112 option (now (octets .entry)) (lentOf (now (rows .entry)) (now (kept .entry)) (now (order .entry)))) r (now (rows .exit)) (now (kept .exit)) (now (order .exit)) ⌝ }
+{
+    decode_by_index(
+        octets,
+        &PDU_SESSION_ESTABLISHMENT_ACCEPT,
+        &INDEX_PDU_SESSION_ESTABLISHMENT_ACCEPT,
+        TLVE_START,
+        option,
+        rows,
+        kept,
+        order,
+    )
+}
+
+// By table number, with that table's start number.
+pub fn decode_optional_ies_by(
+    number: u32,
+    octets: &[u8],
+    out_of_sequence: bool,
+    rows: &mut [u32],
+    kept: &mut [u8],
+    order: &mut [u8],
+) -> Decoded
+    ensures { λ r. ⌜ Reads (readingBy number «out_of_sequence» (now (octets .entry)) (lentOf (now (rows .entry)) (now (kept .entry)) (now (order .entry)))) r (now (rows .exit)) (now (kept .exit)) (now (order .exit)) ⌝ }
+{
+    match number {
+        0 => decode_p(octets, out_of_sequence, rows, kept, order),
+        1 => decode_registration_request(octets, out_of_sequence, rows, kept, order),
+        2 => decode_registration_accept(octets, out_of_sequence, rows, kept, order),
+        3 => decode_registration_reject(octets, out_of_sequence, rows, kept, order),
+        4 => decode_service_request(octets, out_of_sequence, rows, kept, order),
+        5 => decode_pdu_session_establishment_request(octets, out_of_sequence, rows, kept, order),
+        6 => decode_pdu_session_establishment_accept(octets, out_of_sequence, rows, kept, order),
+        _ => Decoded::NoTable,
     }
 }

@@ -3,4 +3,5 @@ pub mod decode;
 pub mod element;
 pub mod fill;
 pub mod measure;
+pub mod next;
 pub mod seen;
