@@ -20,6 +20,7 @@ use logs::unknown_ies::kept_count;
 use logs::unknown_ies::kept_get;
 use logs::unknown_ies::kept_push;
 use message::decode::decode_optional_ies;
+use message::decode::decode_optional_ies_by;
 use tables::check::check_mandatory_table;
 use tables::check::check_table;
 use tables::index::iei_index;
@@ -30,7 +31,7 @@ ghost use lib.Dec.{eqb};
 ghost use Rattle.definitions.specs.Length.{unknownLength};
 ghost use Rattle.definitions.specs.Logs.{keptPush, keptCount, keptGet, keptClear, orderGet};
 ghost use Rattle.definitions.specs.Mandatory.{mandatoryRowsOf, firstBadMandatory};
-ghost use Rattle.definitions.specs.Reading.{reading};
+ghost use Rattle.definitions.specs.Reading.{reading, readingBy};
 ghost use Rattle.definitions.specs.Rows.{rowsOf, firstBad, index as indexOf, placeIn};
 ghost use Rattle.logs.specs.Kept.{usedOf};
 ghost use Rattle.message.specs.Decodes.{lentOf};
@@ -157,6 +158,25 @@ pub extern "C" fn nas_read(
 {
     decoded_said(
         decode_optional_ies(part, table, start, option != 0, rows, kept, order),
+        values,
+    )
+}
+
+// The same by table number, 0 for P and 1 to 6 for the real tables, with the start number 0x70; 5 for any other number.
+#[no_mangle]
+pub extern "C" fn nas_read_by(
+    number: u32,
+    part: &[u8],
+    option: u8,
+    rows: &mut [u32],
+    kept: &mut [u8],
+    order: &mut [u8],
+    values: &mut [u64; 4],
+) -> u32
+    ensures { λ r. ⌜ ReadSays (readingBy number (not (eqb option 0)) (now (part .entry)) (lentOf (now (rows .entry)) (now (kept .entry)) (now (order .entry)))) r (now (values .entry)) (now (values .exit)) (now (rows .exit)) (now (kept .exit)) (now (order .exit)) ⌝ }
+{
+    decoded_said(
+        decode_optional_ies_by(number, part, option != 0, rows, kept, order),
         values,
     )
 }
