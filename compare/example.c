@@ -44,7 +44,7 @@ struct lent {
 
 static void hex(const char *name, const uint8_t *octets, size_t len)
 {
-    printf("  %s:", name);
+    printf("%s:", name);
     for (size_t i = 0; i < len; i++)
         printf(" %02x", octets[i]);
     printf("%s\n", len == 0 ? " empty" : "");
@@ -74,8 +74,8 @@ int main(void)
                 if (a.rows[3 * k] != 0)
                     printf("  place %zu: source %u, start %u, length %u\n", k, (unsigned)a.rows[3 * k],
                            (unsigned)a.rows[3 * k + 1], (unsigned)a.rows[3 * k + 2]);
-            hex("order log", a.order, (size_t)a.values[1]);
-            hex("kept log", a.kept, (size_t)a.values[0]);
+            hex("  order log", a.order, (size_t)a.values[1]);
+            hex("  kept log", a.kept, (size_t)a.values[0]);
         } else {
             printf("  refused %u: %llu, %02llx, %llu\n", (unsigned)number, (unsigned long long)a.values[0],
                    (unsigned long long)a.values[1], (unsigned long long)a.values[2]);
