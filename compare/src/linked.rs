@@ -7,7 +7,7 @@ unsafe extern "C" {
     fn nas_check_table(table: *const u32, table_len: usize, values: *mut Values) -> u32;
     fn nas_check_mandatory_table(table: *const u32, table_len: usize, values: *mut Values) -> u32;
     fn nas_iei_index(table: *const u32, table_len: usize, index: *mut [u8; 256]) -> u32;
-    fn nas_place_of(index: *const [u8; 256], iei: u8, values: *mut Values) -> u32;
+    fn nas_place_of(index: *const u8, index_len: usize, iei: u8, values: *mut Values) -> u32;
     fn nas_kept_push(
         log: *mut u8,
         log_len: usize,
@@ -77,7 +77,7 @@ impl Side for Linked {
     }
 
     fn place_of(&self, index: &[u8; 256], iei: u8, values: &mut Values) -> u32 {
-        unsafe { nas_place_of(index, iei, values) }
+        unsafe { nas_place_of(index.as_ptr(), index.len(), iei, values) }
     }
 
     fn kept_push(&self, log: &mut [u8], used: usize, iei: u8, data: &[u8], values: &mut Values) -> u32 {

@@ -1,0 +1,20 @@
+-- `nas_check_table` returns the answer of the check.
+-- One call and one conversion: the answer of the call is that of the definition.
+use mathlib.Core.Path.{ap}
+use Rattle.nas.specs.Says.{checkAnswer}
+use Rattle.nas.proofs.Laws.{said-by}
+use borrow.Author.Needs.{needs}
+use Rattle.nas.proofs.nas_check_table.Statement.{statement}
+use Rattle.nas.proofs.nas_check_table.Tie as tie
+
+check-table-requires : tie.Need-check-table-requires
+check-table-requires c κs = search needs
+
+checked-said-requires : tie.Need-checked-said-requires
+checked-said-requires c κs = search needs
+
+returns : tie.Need-returns
+returns c = said-by (ap checkAnswer (c .before .before .check-table .ensures)) (c .checked-said .ensures)
+
+pub nas-check-table-spec : {M : Type 1} → statement M
+nas-check-table-spec = tie.close (tie.spec check-table-requires checked-said-requires returns)

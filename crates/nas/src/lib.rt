@@ -1,0 +1,182 @@
+// The C interface: document 01's calls on numbers and slices. Each returns document 01's number and puts its values, in
+// document 01's order, into four lent places; the places that it does not need stay as they were. A slice is handed over as a
+// pointer and a length.
+mod answers;
+mod entries;
+
+use crate::answers::checked_said;
+use crate::answers::counted_said;
+use crate::answers::decoded_said;
+use crate::answers::entry_said;
+use crate::answers::got_said;
+use crate::answers::length_said;
+use crate::answers::place_said;
+use crate::answers::pushed_said;
+use crate::entries::push_by;
+use logs::ie_order::order_get;
+use logs::length::generic_ie_length;
+use logs::unknown_ies::kept_clear;
+use logs::unknown_ies::kept_count;
+use logs::unknown_ies::kept_get;
+use logs::unknown_ies::kept_push;
+use message::decode::decode_optional_ies;
+use message::decode::decode_optional_ies_by;
+use tables::check::check_mandatory_table;
+use tables::check::check_table;
+use tables::index::iei_index;
+use tables::index::place_of;
+ghost use mathlib.Core.Path.{_≡_};
+ghost use mathlib.Core.Bool.{not};
+ghost use lib.Dec.{eqb};
+ghost use Rattle.definitions.specs.Length.{unknownLength};
+ghost use Rattle.definitions.specs.Logs.{keptPush, keptCount, keptGet, keptClear, orderGet};
+ghost use Rattle.definitions.specs.Mandatory.{mandatoryRowsOf, firstBadMandatory};
+ghost use Rattle.definitions.specs.Reading.{reading, readingBy};
+ghost use Rattle.definitions.specs.Rows.{rowsOf, firstBad, index as indexOf, placeIn};
+ghost use Rattle.logs.specs.Kept.{usedOf};
+ghost use Rattle.message.specs.Decodes.{lentOf};
+ghost use Rattle.nas.specs.Entries.{orderPushBy};
+ghost use Rattle.nas.specs.Says.{Says, ReadSays, checkAnswer, placeAnswer, lengthAnswer};
+
+// The length of an unknown element from the octets from its first octet on: 0 and the length, or 1, cut short.
+#[no_mangle]
+pub extern "C" fn nas_generic_ie_length(octets: &[u8], start: u8, values: &mut [u64; 4]) -> u32
+    ensures { λ r. ⌜ Says (lengthAnswer (unknownLength start (now (octets .entry)))) r (now (values .entry)) (now (values .exit)) ⌝ }
+{
+    length_said(generic_ie_length(octets, start), values)
+}
+
+// A table of optional elements: 0 where it passes, or 4 and its first bad row.
+#[no_mangle]
+pub extern "C" fn nas_check_table(table: &[u32], values: &mut [u64; 4]) -> u32
+    ensures { λ r. ⌜ Says (checkAnswer (firstBad (rowsOf (now (table .entry))))) r (now (values .entry)) (now (values .exit)) ⌝ }
+{
+    checked_said(check_table(table), values)
+}
+
+// A table of mandatory rows: 0 where it passes, or 4 and its first bad row.
+#[no_mangle]
+pub extern "C" fn nas_check_mandatory_table(table: &[u32], values: &mut [u64; 4]) -> u32
+    ensures { λ r. ⌜ Says (checkAnswer (firstBadMandatory (mandatoryRowsOf (now (table .entry))))) r (now (values .entry)) (now (values .exit)) ⌝ }
+{
+    checked_said(check_mandatory_table(table), values)
+}
+
+// The index of a table of optional elements, into 256 lent octets: 0.
+#[no_mangle]
+pub extern "C" fn nas_iei_index(table: &[u32], index: &mut [u8; 256]) -> u32
+    ensures { λ r. ⌜ (r ≡ 0) × (now (index .exit) ≡ indexOf (rowsOf (now (table .entry)))) ⌝ }
+{
+    *index = iei_index(table);
+    0
+}
+
+// What an index says of an IEI: 0 and the place, or 0 and no value. An index that ends before the IEI has no place for it.
+#[no_mangle]
+pub extern "C" fn nas_place_of(index: &[u8], iei: u8, values: &mut [u64; 4]) -> u32
+    ensures { λ r. ⌜ Says (placeAnswer (placeIn (now (index .entry)) iei)) r (now (values .entry)) (now (values .exit)) ⌝ }
+{
+    place_said(place_of(index, iei), values)
+}
+
+// An IEI and the octets after it behind the octets used of a kept log: 0 and the octets then used; 3; 11 and 2; 2 and 2.
+#[no_mangle]
+pub extern "C" fn nas_kept_push(
+    log: &mut [u8],
+    used: usize,
+    iei: u8,
+    octets: &[u8],
+    values: &mut [u64; 4],
+) -> u32
+    ensures { λ r. ⌜ Says (keptPush (usedOf (now (log .entry)) used) iei (now (octets .entry)) .said) r (now (values .entry)) (now (values .exit)) × (now (log .exit) ≡ keptPush (usedOf (now (log .entry)) used) iei (now (octets .entry)) .log) ⌝ }
+{
+    pushed_said(kept_push(log, used, iei, octets), 2, 2, values)
+}
+
+// How many elements a kept log holds: 0 and the count; 3; 11 and 2.
+#[no_mangle]
+pub extern "C" fn nas_kept_count(log: &[u8], used: usize, values: &mut [u64; 4]) -> u32
+    ensures { λ r. ⌜ Says (keptCount (usedOf (now (log .entry)) used)) r (now (values .entry)) (now (values .exit)) ⌝ }
+{
+    counted_said(kept_count(log, used), values)
+}
+
+// The element of a kept log at a number from 0: 0, its start in the log, IEI first, and its length; past the last 0 and no
+// value; 3; 11 and 2.
+#[no_mangle]
+pub extern "C" fn nas_kept_get(log: &[u8], used: usize, k: usize, values: &mut [u64; 4]) -> u32
+    ensures { λ r. ⌜ Says (keptGet (usedOf (now (log .entry)) used) k) r (now (values .entry)) (now (values .exit)) ⌝ }
+{
+    got_said(kept_get(log, used, k), values)
+}
+
+// Every element out of a kept log: 0 and 0, the octets then used. No octet changes.
+#[no_mangle]
+pub extern "C" fn nas_kept_clear(log: &[u8], used: usize, values: &mut [u64; 4]) -> u32
+    ensures { λ r. ⌜ Says (keptClear (usedOf (now (log .entry)) used) .said) r (now (values .entry)) (now (values .exit)) ⌝ }
+{
+    pushed_said(kept_clear(log, used), 2, 2, values)
+}
+
+// An entry behind the octets used of an order log, 0 with the IEI, or 1 to 4, whatever the IEI: 0 and the octets then used; 3;
+// 11 and 1, also for an entry over 4; 2 and 3.
+#[no_mangle]
+pub extern "C" fn nas_order_push(
+    log: &mut [u8],
+    used: usize,
+    entry: u8,
+    iei: u8,
+    values: &mut [u64; 4],
+) -> u32
+    ensures { λ r. ⌜ Says (orderPushBy (usedOf (now (log .entry)) used) «entry» iei .said) r (now (values .entry)) (now (values .exit)) × (now (log .exit) ≡ orderPushBy (usedOf (now (log .entry)) used) «entry» iei .log) ⌝ }
+{
+    pushed_said(push_by(log, used, entry, iei), 1, 3, values)
+}
+
+// The entry of an order log at a number from 0: 0 and its octets; past the last 0 and no value; 3; 11 and 1.
+#[no_mangle]
+pub extern "C" fn nas_order_get(log: &[u8], used: usize, k: usize, values: &mut [u64; 4]) -> u32
+    ensures { λ r. ⌜ Says (orderGet (usedOf (now (log .entry)) used) k) r (now (values .entry)) (now (values .exit)) ⌝ }
+{
+    entry_said(order_get(log, used, k), values)
+}
+
+// An optional part by a lent table, with the start number of the long form; option 0 is off, any other on. 0 and the octets
+// used of the kept log and the order log; 4 and the first bad row; 3; 2 and which; 1, start, first octet and octets to the end.
+#[no_mangle]
+pub extern "C" fn nas_read(
+    part: &[u8],
+    table: &[u32],
+    start: u8,
+    option: u8,
+    rows: &mut [u32],
+    kept: &mut [u8],
+    order: &mut [u8],
+    values: &mut [u64; 4],
+) -> u32
+    ensures { λ r. ⌜ ReadSays (reading (now (table .entry)) start (not (eqb option 0)) (now (part .entry)) (lentOf (now (rows .entry)) (now (kept .entry)) (now (order .entry)))) r (now (values .entry)) (now (values .exit)) (now (rows .exit)) (now (kept .exit)) (now (order .exit)) ⌝ }
+{
+    decoded_said(
+        decode_optional_ies(part, table, start, option != 0, rows, kept, order),
+        values,
+    )
+}
+
+// The same by table number, 0 for P and 1 to 6 for the real tables, with the start number 0x70; 5 for any other number.
+#[no_mangle]
+pub extern "C" fn nas_read_by(
+    number: u32,
+    part: &[u8],
+    option: u8,
+    rows: &mut [u32],
+    kept: &mut [u8],
+    order: &mut [u8],
+    values: &mut [u64; 4],
+) -> u32
+    ensures { λ r. ⌜ ReadSays (readingBy number (not (eqb option 0)) (now (part .entry)) (lentOf (now (rows .entry)) (now (kept .entry)) (now (order .entry)))) r (now (values .entry)) (now (values .exit)) (now (rows .exit)) (now (kept .exit)) (now (order .exit)) ⌝ }
+{
+    decoded_said(
+        decode_optional_ies_by(number, part, option != 0, rows, kept, order),
+        values,
+    )
+}
