@@ -1,5 +1,5 @@
 /* Reads the example parts of document 01 under table P through include/nas.h, by table number and by a lent table, and prints
- * what each gives: number and values, the rows of places that hold a value, the order log and the kept log. */
+ * what each gives: number and values, the values that places hold, with their rows, the order log and the kept log. */
 #include <stdio.h>
 #include <string.h>
 
@@ -50,6 +50,23 @@ static void hex(const char *name, const uint8_t *octets, size_t len)
     printf("%s\n", len == 0 ? " empty" : "");
 }
 
+/* The value of a place, by its row; nothing where it is absent. */
+static void show(const struct lent *a, const uint8_t *part, size_t len, size_t place)
+{
+    const uint32_t *row = a->rows + 3 * place;
+    uint64_t values[4];
+    uint32_t number = nas_show(table_p, 9 * PLACES, a->rows, 3 * PLACES, part, len, part, 0, 0, place, values);
+    if (number != 0)
+        printf("  place %zu: not shown, %u\n", place, (unsigned)number);
+    if (row[0] == 0 || number != 0)
+        return;
+    printf("  place %zu: source %u, start %u, length %u, ", place, (unsigned)row[0], (unsigned)row[1], (unsigned)row[2]);
+    if (table_p[9 * place + 5] == 0)
+        printf("four bits: %llx\n", (unsigned long long)values[0]);
+    else
+        hex("value", part + values[1], (size_t)values[2]);
+}
+
 int main(void)
 {
     int differ = 0;
@@ -71,9 +88,7 @@ int main(void)
             printf("  0: %llu octets of the kept log, %llu of the order log\n", (unsigned long long)a.values[0],
                    (unsigned long long)a.values[1]);
             for (size_t k = 0; k < PLACES; k++)
-                if (a.rows[3 * k] != 0)
-                    printf("  place %zu: source %u, start %u, length %u\n", k, (unsigned)a.rows[3 * k],
-                           (unsigned)a.rows[3 * k + 1], (unsigned)a.rows[3 * k + 2]);
+                show(&a, part, len, k);
             hex("  order log", a.order, (size_t)a.values[1]);
             hex("  kept log", a.kept, (size_t)a.values[0]);
         } else {

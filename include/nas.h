@@ -8,11 +8,12 @@
  * Refusals:
  *   1   an element is cut short
  *   2   no room: values[0] says where, 1 place rows, 2 kept log, 3 order log
- *   3   too long: a part or a pushed element over 65,535 octets; a log over 131,070 octets, or so after the push; a used
- *       count above its buffer
+ *   3   too long: a part, received or set octets, or a pushed element over 65,535 octets; a log over 131,070 octets, or so
+ *       after the push; a used count above its buffer
  *   4   the table fails the check: values[0] is its first bad row
  *   5   no table has this number
- *   11  the log is malformed: values[0] says which, 1 order log, 2 kept log
+ *   10  the value of a place does not fit its form: values[0] is the place
+ *   11  malformed: values[0] says which, 1 order log, 2 kept log, 3 place rows, or a place not in the table
  *
  * A table of optional elements has nine numbers a row: how many IEIs (1 to 4), four IEIs, the form (0 half octet, 1 fixed,
  * 2 TLV, 3 TLV-E), the value octets of a fixed form, the least whole length, and the set of kinds (bit k for kind k).
@@ -93,6 +94,13 @@ uint32_t nas_read(const uint8_t *part, size_t part_len, const uint32_t *table, s
  * As nas_read, but 5, no value, for any other number, and never 4. */
 uint32_t nas_read_by(uint32_t number, const uint8_t *part, size_t part_len, uint8_t option, uint32_t *rows, size_t rows_len,
                      uint8_t *kept, size_t kept_len, uint8_t *order, size_t order_len, uint64_t values[4]);
+
+/* Shows the value of a place by the place rows: received are the octets that were read, and the first used octets of set those
+ * that were set.
+ * 0: source (1 received, 2 set), start and length of the value in its octets; of a half octet its four bits; of an absent place
+ * no value. 4: the first bad row of the table. 3: no value. 2: 1. 11: 3. 10: the place. */
+uint32_t nas_show(const uint32_t *table, size_t table_len, const uint32_t *rows, size_t rows_len, const uint8_t *received,
+                  size_t received_len, const uint8_t *set, size_t set_len, size_t used, size_t place, uint64_t values[4]);
 
 #ifdef __cplusplus
 }

@@ -9,6 +9,7 @@ use logs::unknown_ies::Got;
 use logs::unknown_ies::Pushed;
 use message::decode::Decoded;
 use message::decode::Room;
+use message::show::Shown;
 use tables::check::Checked;
 use tables::index::Place;
 ghost use mathlib.Core.Path.{_≡_};
@@ -18,6 +19,7 @@ ghost use Rattle.definitions.specs.Logs.{orderEntry};
 ghost use Rattle.logs.specs.Kept.{pushedAs, countedAs, gotAs};
 ghost use Rattle.logs.specs.Order.{placedAs, entryAs};
 ghost use Rattle.message.specs.Decodes.{roomAs, decodedAs};
+ghost use Rattle.message.specs.Shows.{shownAs};
 ghost use Rattle.tables.specs.Answers.{checkedAs, placeAs};
 ghost use Rattle.nas.specs.Says.{Says, checkAnswer, placeAnswer, lengthAnswer, lengthAs};
 
@@ -158,5 +160,26 @@ pub fn decoded_said(decoded: Decoded, values: &mut [u64; 4]) -> u32
         Decoded::TooLong => 3,
         Decoded::BadTable(row) => one(4, row as u64, values),
         Decoded::NoTable => 5,
+    }
+}
+
+pub fn shown_said(shown: Shown, values: &mut [u64; 4]) -> u32
+    ensures { λ r. ⌜ Says (shownAs shown) r (now (values .entry)) (now (values .exit)) ⌝ }
+{
+    match shown {
+        Shown::Absent => 0,
+        Shown::Half(x) => one(0, x as u64, values),
+        Shown::Value(row) => three(
+            0,
+            row.source as u64,
+            row.start as u64,
+            row.len as u64,
+            values,
+        ),
+        Shown::BadTable(row) => one(4, row as u64, values),
+        Shown::TooLong => 3,
+        Shown::NoRoom => one(2, 1, values),
+        Shown::Malformed => one(11, 3, values),
+        Shown::Unfit(place) => one(10, place as u64, values),
     }
 }

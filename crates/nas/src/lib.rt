@@ -12,6 +12,7 @@ use crate::answers::got_said;
 use crate::answers::length_said;
 use crate::answers::place_said;
 use crate::answers::pushed_said;
+use crate::answers::shown_said;
 use crate::entries::push_by;
 use logs::ie_order::order_get;
 use logs::length::generic_ie_length;
@@ -21,6 +22,7 @@ use logs::unknown_ies::kept_get;
 use logs::unknown_ies::kept_push;
 use message::decode::decode_optional_ies;
 use message::decode::decode_optional_ies_by;
+use message::show::show;
 use tables::check::check_mandatory_table;
 use tables::check::check_table;
 use tables::index::iei_index;
@@ -33,6 +35,7 @@ ghost use Rattle.definitions.specs.Logs.{keptPush, keptCount, keptGet, keptClea
 ghost use Rattle.definitions.specs.Mandatory.{mandatoryRowsOf, firstBadMandatory};
 ghost use Rattle.definitions.specs.Reading.{reading, readingBy};
 ghost use Rattle.definitions.specs.Rows.{rowsOf, firstBad, index as indexOf, placeIn};
+ghost use Rattle.definitions.specs.Values.{showing};
 ghost use Rattle.logs.specs.Kept.{usedOf};
 ghost use Rattle.message.specs.Decodes.{lentOf};
 ghost use Rattle.nas.specs.Entries.{orderPushBy};
@@ -179,4 +182,21 @@ pub extern "C" fn nas_read_by(
         decode_optional_ies_by(number, part, option != 0, rows, kept, order),
         values,
     )
+}
+
+// The value of a place, by the rows that reading wrote or setting changed: 0 and its source, start and length, of a half octet
+// its four bits, of an absent place no value; 4 and the first bad row; 3; 2 and 1; 11 and 3; 10 and the place.
+#[no_mangle]
+pub extern "C" fn nas_show<'a>(
+    table: &[u32],
+    rows: &[u32],
+    received: &'a [u8],
+    set: &'a [u8],
+    used: usize,
+    place: usize,
+    values: &mut [u64; 4],
+) -> u32
+    ensures { λ r. ⌜ Says (showing (now (table .entry)) (now (rows .entry)) (now (received .entry)) (usedOf (now (set .entry)) used) place) r (now (values .entry)) (now (values .exit)) ⌝ }
+{
+    shown_said(show(table, rows, received, set, used, place), values)
 }
