@@ -131,8 +131,8 @@ module _ (received : List ℕ) (set : Used) where
   not-long h b u = rw (le-ltb 65535 (length received) h, le-ltb (length (set .buffer)) (set .used) b, le-ltb 65535 (set .used) u)
 
 by-tests :
-  (b c : Bool) (k : ℕ) (s : List ℕ)
-  → unless (refusal (refuse (b && not c) 10 (k ∷ []) ∷ [])) (λ a. a) (answer 0 (pick b s []))
+    (b c : Bool) (k : ℕ) (s : List ℕ)
+    → unless (refusal (refuse (b && not c) 10 (k ∷ []) ∷ [])) (λ a. a) (answer 0 (pick b s []))
     ≡ pick b (pick c (answer 0 s) (answer 10 (k ∷ []))) (answer 0 [])
 unfolding refusal
 by-tests true true k s = refl
@@ -141,9 +141,9 @@ by-tests false c k s = refl
 
 -- a table that fails is refused before everything else
 pub show-table :
-  (table rows received : List ℕ) (set : Used) (k j : ℕ)
-  → firstBad (rowsOf table) ≡ some j
-  → showing table rows received set k ≡ answer 4 (j ∷ [])
+    (table rows received : List ℕ) (set : Used) (k j : ℕ)
+    → firstBad (rowsOf table) ≡ some j
+    → showing table rows received set k ≡ answer 4 (j ∷ [])
 unfolding showing placeChecks refusal
 show-table table rows received set k j e = rw e
 
@@ -160,14 +160,14 @@ module _ (table rows received : List ℕ) (set : Used) (k : ℕ) (p : firstBad (
 
     module _ (h : 3 * length (rowsOf table) ≤ length rows) where
       pub show-bad :
-        badRows (sourcesOf received (content set)) rows (length (rowsOf table)) || leb (length (rowsOf table)) k ≡ true
-        → showing table rows received set k ≡ answer 11 (3 ∷ [])
+          badRows (sourcesOf received (content set)) rows (length (rowsOf table)) || leb (length (rowsOf table)) k ≡ true
+          → showing table rows received set k ≡ answer 11 (3 ∷ [])
       unfolding showing placeChecks refusal
       show-bad b = rw (p, e, le-ltb (length rows) (3 * length (rowsOf table)) h, b)
 
       pub show-good :
-        badRows (sourcesOf received (content set)) rows (length (rowsOf table)) || leb (length (rowsOf table)) k ≡ false
-        → showing table rows received set k ≡ shownRow (form (rowAt (rowsOf table) k)) (sourcesOf received (content set)) (valueAt rows k) k
+          badRows (sourcesOf received (content set)) rows (length (rowsOf table)) || leb (length (rowsOf table)) k ≡ false
+          → showing table rows received set k ≡ shownRow (form (rowAt (rowsOf table) k)) (sourcesOf received (content set)) (valueAt rows k) k
       unfolding showing placeChecks refusal unfitAt shownRow
       show-good b =
           rw (p, e, le-ltb (length rows) (3 * length (rowsOf table)) h, b)
@@ -179,8 +179,8 @@ module _ (table rows received : List ℕ) (set : Used) (k : ℕ) (p : firstBad (
 
 -- whether a row is bad, by how many octets there are and how many are used
 pub bad-used :
-  (received : List ℕ) (set : Used) (rows : List ℕ) (n : ℕ)
-  → set .used ≤ length (set .buffer)
-  → badRows (sourcesOf received (content set)) rows n ≡ anyBad (length received) (set .used) rows n
+    (received : List ℕ) (set : Used) (rows : List ℕ) (n : ℕ)
+    → set .used ≤ length (set .buffer)
+    → badRows (sourcesOf received (content set)) rows n ≡ anyBad (length received) (set .used) rows n
 unfolding content
 bad-used received set rows n h = rw (bad-lengths (sourcesOf received (content set)) rows n, length-take-le (set .used) (set .buffer) h)

@@ -1,11 +1,10 @@
 // Showing the value of a place: where its row says it is, after the checks of the table and of every row.
 use octets::part;
-use tables::check::check_table;
 use tables::check::Checked;
+use tables::check::check_table;
+use tables::rows::Form;
 use tables::rows::form_at;
 use tables::rows::places;
-use tables::rows::Form;
-
 ghost use mathlib.Core.Path.{_≡_};
 ghost use mathlib.Core.Option.{none};
 ghost use Prim.Native.Nat.{_*_, _≤_, _<_, _+_};
@@ -162,7 +161,14 @@ fn show_row<'a>(form: Form, row: ValueRow, received: &'a [u8], set: &'a [u8], pl
 }
 
 // The same after the checks of the octets and the rows, under a table that passes.
-fn show_checked<'a>(table: &[u32], rows: &[u32], received: &'a [u8], set: &'a [u8], used: usize, place: usize) -> Shown
+fn show_checked<'a>(
+    table: &[u32],
+    rows: &[u32],
+    received: &'a [u8],
+    set: &'a [u8],
+    used: usize,
+    place: usize,
+) -> Shown
     requires { ⌜ firstBad (rowsOf (now table)) ≡ none ⌝ }
     ensures { λ r. ⌜ shownAs r ≡ showing (now (table .entry)) (now (rows .entry)) (now (received .entry)) (usedOf (now (set .entry)) used) place ⌝ }
 {
@@ -195,7 +201,14 @@ fn show_checked<'a>(table: &[u32], rows: &[u32], received: &'a [u8], set: &'a [u
 }
 
 // The value of a place: its row is read from the lent rows; the received octets, and the set octets that are used.
-pub fn show<'a>(table: &[u32], rows: &[u32], received: &'a [u8], set: &'a [u8], used: usize, place: usize) -> Shown
+pub fn show<'a>(
+    table: &[u32],
+    rows: &[u32],
+    received: &'a [u8],
+    set: &'a [u8],
+    used: usize,
+    place: usize,
+) -> Shown
     ensures { λ r. ⌜ shownAs r ≡ showing (now (table .entry)) (now (rows .entry)) (now (received .entry)) (usedOf (now (set .entry)) used) place ⌝ }
 {
     match check_table(table) {
