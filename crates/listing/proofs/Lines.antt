@@ -9,8 +9,8 @@ use lib.ListN.{length, length-append}
 use lib.Dec.{ltb}
 use borrow.Author.Tests.{lt-ltb, le-ltb}
 use Rattle.definitions.specs.Basic.{pick}
-use Rattle.definitions.specs.Elements.{Verdict, accepted, unknown, malformed, repeated, outOfSequence, Element as DefElement, ieiAt}
-use Rattle.definitions.specs.Listing.{ascii, decimalF, decimal, hex, word, space, newline, line}
+use Rattle.definitions.specs.Elements.{Verdict, accepted, unknown, malformed, repeated, outOfSequence, Element as DefElement, ieiAt, elements, cutShort}
+use Rattle.definitions.specs.Listing.{ascii, decimalF, decimal, hex, word, space, newline, line, lines, listed}
 use Rattle.logs.specs.declared.ie_order.Placed.{Placed}
 use Rattle.logs.specs.declared.ie_order.IgnoredIeReason.{IgnoredIeReason}
 use Rattle.message.specs.Steps.{placedFor, elementOf}
@@ -84,7 +84,17 @@ line-is d =
     ap (λ (w : List ℕ). decimal (d .at) ++ (space ++ (decimal (length (d .octets)) ++ (space ++ (hex (ieiAt d) ++ (space ++ (w ++ newline)))))))
     (word-is (ieiAt d) (d .verdict))
 
-pub line-short : (e : Element) → length (lineOf e) ≤ 32
+pub line-short : (e : Element) → length (lineOf e) ≤ 25
 unfolding lineOf hex
 line-short e =
     simp length-append (omega (arith, decimal-short (e .start), decimal-short (e .len), word-short (e .placed)))
+
+-- ---- the last line
+
+pub end-short : (n : ℕ) → length (listed n (elements [])) ≤ 10
+unfolding listed lines ascii
+end-short n = simp length-append (omega (arith, decimal-short n))
+
+pub cut-short : (a x k : ℕ) → length (listed 0 (cutShort a x k)) ≤ 33
+unfolding listed ascii hex
+cut-short a x k = simp length-append (omega (arith, decimal-short a, decimal-short k))

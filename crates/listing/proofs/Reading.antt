@@ -96,7 +96,7 @@ module _ (part : List ℕ) where
       pub reads : left s ≡ elements rest
       pub within : s .at ≤ length part
       pub long : length out ≡ length out₀
-      pub bound : used ≤ first + 32 * s .at
+      pub bound : used ≤ first + 25 * s .at
       pub ends : (d : List ℕ) (k : ℕ) → Put out used (lines rest) d k → Put out₀ first all d k
 
     whole-elements : (p : Parted) → wholeOf p ≡ Whole.Elements → p ≡ elements (elementsOf p)

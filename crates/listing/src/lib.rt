@@ -12,7 +12,7 @@ use message::next::next_element;
 use message::next::start_state;
 use tables::real::TABLE_P;
 ghost use mathlib.Core.Path.{_≡_};
-ghost use Prim.Native.Nat.{_≤_, _<_, _^_};
+ghost use Prim.Native.Nat.{_+_, _≤_};
 ghost use lib.ListN.{length};
 ghost use Rattle.definitions.specs.Elements.{elementsOf};
 ghost use Rattle.definitions.specs.Listing.{lines, listing};
@@ -20,6 +20,9 @@ ghost use Rattle.listing.specs.Puts.{Put};
 ghost use Rattle.listing.specs.Parts.{stepAt, partedP, wholeOf, listedAs, outAs};
 
 const MOST_LISTED: usize = 4096;
+
+// No text is longer: the header, 4,096 lines of 25 octets, and the last line.
+pub const MOST_TEXT: usize = 102_429;
 
 const TLVE_START: u8 = 0x70;
 
@@ -72,7 +75,7 @@ fn read_whole(octets: &[u8]) -> Whole
 // A line for each element of a part that is read whole.
 fn put_lines(octets: &[u8], out: &mut [u8], first: usize) -> usize
     requires { ⌜ (length (now octets) ≤ 4096) × (first ≤ 32) × (wholeOf (partedP (now octets)) ≡ Whole.Elements) ⌝ }
-    ensures { λ r. ⌜ (Put (now (out .entry)) first (lines (elementsOf (partedP (now (octets .entry))))) (now (out .exit)) r) × (r < 2 ^ 20) ⌝ }
+    ensures { λ r. ⌜ (Put (now (out .entry)) first (lines (elementsOf (partedP (now (octets .entry))))) (now (out .exit)) r) × (r ≤ first + 102400) ⌝ }
 {
     let mut state = start_state();
     let mut used = first;
@@ -94,7 +97,7 @@ fn put_lines(octets: &[u8], out: &mut [u8], first: usize) -> usize
 
 // The whole text, as far as there is room, and its length.
 fn put_text(octets: &[u8], out: &mut [u8]) -> usize
-    ensures { λ r. ⌜ Put (now (out .entry)) 0 (listing (now (octets .entry))) (now (out .exit)) r ⌝ }
+    ensures { λ r. ⌜ Put (now (out .entry)) 0 (listing (now (octets .entry))) (now (out .exit)) r × (r ≤ 102429) ⌝ }
 {
     let used = put(out, 0, b"at len iei verdict\n");
     if octets.len() > MOST_LISTED {
@@ -113,6 +116,7 @@ fn put_text(octets: &[u8], out: &mut [u8]) -> usize
 pub fn list_part(octets: &[u8], out: &mut [u8]) -> Listed
     ensures { λ r. ⌜ r ≡ listedAs (listing (now (octets .entry))) (now (out .entry)) ⌝ }
     ensures { λ r. ⌜ now (out .exit) ≡ outAs (listing (now (octets .entry))) (now (out .entry)) ⌝ }
+    ensures { λ r. ⌜ length (listing (now (octets .entry))) ≤ 102429 ⌝ }
 {
     let mut none = [0u8; 1];
     let n = put_text(octets, &mut none);
