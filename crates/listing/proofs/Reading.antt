@@ -1,21 +1,19 @@
 -- The loops over the elements of a part under table P: what is left of the part gives what the whole part gives.
 -- A step of the code is the definition's step, since table P passes its check and the part is within the limit.
-use Prim.Native.Nat.{ℕ, zero, suc, _+_, _*_, _≤_, _<_}
+use Prim.Native.Nat.{ℕ, _+_, _*_, _≤_, _<_}
 use native.Mathlib.Omega.{arith}
 use mathlib.Core.Path.{_≡_, refl, ap, sym, _∙_}
 use mathlib.Core.List.{List, [], _∷_, _++_}
-use mathlib.Core.Bool.{Bool, true, false}
-use mathlib.Core.Option.{Option, none, some}
+use mathlib.Core.Bool.{false}
+use mathlib.Core.Option.{none}
 use lib.ListN.{length}
 use borrow.Author.Tests.{lt-ltb, le-ltb}
-use Rattle.definitions.specs.Rows.{Row, rowsOf, firstBad}
+use Rattle.definitions.specs.Rows.{rowsOf, firstBad}
 use Rattle.definitions.specs.Tables.{tableP, tableOf, startOf}
 use Rattle.definitions.specs.Elements.{Element as DefElement, Parted, elements, cutShort, elementsOf, before}
-use Rattle.definitions.specs.Listing.{ascii, heading, newline, line, lines, listed, listing}
-use Rattle.tables.specs.Real.{realOf}
+use Rattle.definitions.specs.Listing.{ascii, heading, newline, lines, listed, listing}
 use Rattle.tables.proofs.RealLaws.{real}
-use Rattle.message.specs.Steps.{elementOf, stepOf}
-use Rattle.message.specs.Nexts.{startState, nextAs, nextFrom, nextBy, nextOf}
+use Rattle.message.specs.Nexts.{startState, nextAs, nextFrom, nextOf}
 use Rattle.message.specs.declared.element.State.{State}
 use Rattle.message.specs.declared.element.Element.{Element}
 use Rattle.message.specs.declared.element.Step.{Step}

@@ -8,7 +8,6 @@ use Rattle.definitions.specs.Basic.{pick, over}
 use Rattle.definitions.specs.Rows.{rowsOf}
 use Rattle.definitions.specs.Tables.{tableP, startOf}
 use Rattle.definitions.specs.Elements.{Parted, elements, cutShort, step, parted}
-use Rattle.definitions.specs.Listing.{listing}
 use Rattle.message.specs.Steps.{stepOf, metOf}
 use Rattle.message.specs.declared.element.State.{State}
 use Rattle.message.specs.declared.element.Step.{Step}

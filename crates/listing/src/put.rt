@@ -6,7 +6,7 @@ use message::element::iei_of;
 use octets::put_slice;
 ghost use mathlib.Core.Path.{_≡_};
 ghost use mathlib.Core.List.{[], _∷_};
-ghost use Prim.Native.Nat.{_+_, _≤_, _<_, _^_};
+ghost use Prim.Native.Nat.{_+_, _<_, _^_};
 ghost use lib.ListN.{length};
 ghost use Rattle.definitions.specs.Elements.{elements, cutShort};
 ghost use Rattle.definitions.specs.Listing.{decimalF, decimal, hexDigit, hex, listed};

@@ -1,6 +1,5 @@
 -- `list_part` puts the text twice: into no room, for its length, and into the lent buffer where there is room for all of it.
 -- Each way out has the test of the room.
-use Prim.Native.Nat.{ℕ, _≤_}
 use mathlib.Core.Path.{_≡_, ap}
 use native.Mathlib.Omega.{arith}
 use lib.ListN.{length}

@@ -2,7 +2,6 @@
 -- Past the end nothing is put.
 use mathlib.Core.Path.{refl, sym}
 use native.Mathlib.Omega.{arith}
-use lib.ListN.{length}
 use Rattle.listing.proofs.Puts.{no-room, put-lent}
 use borrow.Author.Needs.{needs}
 use Rattle.listing.proofs.put.put.Statement.{statement}

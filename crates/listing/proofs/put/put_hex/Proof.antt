@@ -2,7 +2,7 @@
 -- Each is the definition's.
 use Prim.Native.Nat.{ℕ}
 use mathlib.Core.Path.{ap₂}
-use mathlib.Core.List.{List, [], _∷_}
+use mathlib.Core.List.{[], _∷_}
 use Rattle.definitions.specs.Listing.{hex}
 use Rattle.listing.proofs.Puts.{at-text}
 use borrow.Author.Needs.{needs}
