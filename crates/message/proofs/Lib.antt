@@ -11,3 +11,4 @@ pub mod Filling
 pub mod Entered
 pub mod Decoding
 pub mod Showing
+pub mod SameAnswers
