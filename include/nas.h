@@ -95,6 +95,14 @@ uint32_t nas_read(const uint8_t *part, size_t part_len, const uint32_t *table, s
 uint32_t nas_read_by(uint32_t number, const uint8_t *part, size_t part_len, uint8_t option, uint32_t *rows, size_t rows_len,
                      uint8_t *kept, size_t kept_len, uint8_t *order, size_t order_len, uint64_t values[4]);
 
+/* The element at a state, and the state behind it. A state has four numbers: position, places met from 0 to 63 and from 64 to
+ * 127 (a bit each), highest place met; four zeros are the state at a part's start. Any state gets an answer.
+ * 0: length, IEI, place (255 where it has none), and how it came (0 accepted, 1 unknown, 2 malformed, 3 repeated, 4 out of
+ * sequence); it starts at the position that the state had. At the end no value, and the state stays. 4: the first bad row.
+ * 3: no value. 1: start of the element, its first octet, octets from there to the end. On 1, 3 and 4 the state stays. */
+uint32_t nas_next(const uint8_t *part, size_t part_len, const uint32_t *table, size_t table_len, uint8_t start, uint8_t option,
+                  uint64_t state[4], uint64_t values[4]);
+
 /* Shows the value of a place by the place rows: received are the octets that were read, and the first used octets of set those
  * that were set.
  * 0: source (1 received, 2 set), start and length of the value in its octets; of a half octet its four bits; of an absent place

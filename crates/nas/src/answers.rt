@@ -9,6 +9,8 @@ use logs::unknown_ies::Got;
 use logs::unknown_ies::Pushed;
 use message::decode::Decoded;
 use message::decode::Room;
+use message::element::State;
+use message::next::NextElement;
 use message::show::Shown;
 use tables::check::Checked;
 use tables::index::Place;
@@ -21,7 +23,8 @@ ghost use Rattle.logs.specs.Order.{placedAs, entryAs};
 ghost use Rattle.message.specs.Decodes.{roomAs, decodedAs};
 ghost use Rattle.message.specs.Shows.{shownAs};
 ghost use Rattle.tables.specs.Answers.{checkedAs, placeAs};
-ghost use Rattle.nas.specs.Says.{Says, checkAnswer, placeAnswer, lengthAnswer, lengthAs};
+ghost use Rattle.nas.specs.Nexts.{stateNumbers, verdictNumber, NextSays};
+ghost use Rattle.nas.specs.Says.{put, Says, checkAnswer, placeAnswer, lengthAnswer, lengthAs};
 
 // A number with one, two and three values.
 fn one(number: u32, a: u64, values: &mut [u64; 4]) -> u32
@@ -45,6 +48,16 @@ fn three(number: u32, a: u64, b: u64, c: u64, values: &mut [u64; 4]) -> u32
     values[0] = a;
     values[1] = b;
     values[2] = c;
+    number
+}
+
+fn four(number: u32, a: u64, b: u64, c: u64, d: u64, values: &mut [u64; 4]) -> u32
+    ensures { λ r. ⌜ Says (answer number (a ∷ b ∷ c ∷ d ∷ [])) r (now (values .entry)) (now (values .exit)) ⌝ }
+{
+    values[0] = a;
+    values[1] = b;
+    values[2] = c;
+    values[3] = d;
     number
 }
 
@@ -181,5 +194,60 @@ pub fn shown_said(shown: Shown, values: &mut [u64; 4]) -> u32
         Shown::NoRoom => one(2, 1, values),
         Shown::Malformed => one(11, 3, values),
         Shown::Unfit(place) => one(10, place as u64, values),
+    }
+}
+
+// Why an element was set aside.
+fn reason_number(reason: IgnoredIeReason) -> u64
+    ensures { λ r. ⌜ r ≡ verdictNumber (Placed.Ignored reason) ⌝ }
+{
+    match reason {
+        IgnoredIeReason::Malformed => 2,
+        IgnoredIeReason::Repeated => 3,
+        IgnoredIeReason::OutOfSequence => 4,
+    }
+}
+
+// How an element came.
+fn verdict_of(placed: Placed) -> u64
+    ensures { λ r. ⌜ r ≡ verdictNumber placed ⌝ }
+{
+    match placed {
+        Placed::Known(_) => 0,
+        Placed::Unknown => 1,
+        Placed::Ignored(reason) => reason_number(reason),
+    }
+}
+
+fn put_state(s: State, state: &mut [u64; 4])
+    ensures { λ r. ⌜ now (state .exit) ≡ put (stateNumbers s) (now (state .entry)) ⌝ }
+{
+    state[0] = s.at as u64;
+    state[1] = s.seen.low;
+    state[2] = s.seen.high;
+    state[3] = s.highest as u64;
+}
+
+pub fn next_said(next: NextElement, state: &mut [u64; 4], values: &mut [u64; 4]) -> u32
+    ensures { λ r. ⌜ NextSays next r (now (values .entry)) (now (values .exit)) (now (state .entry)) (now (state .exit)) ⌝ }
+{
+    match next {
+        NextElement::Next(e, after) => {
+            let placed = e.placed;
+            let verdict = verdict_of(placed);
+            put_state(after, state);
+            four(
+                0,
+                e.len as u64,
+                e.iei as u64,
+                e.place as u64,
+                verdict,
+                values,
+            )
+        }
+        NextElement::Cut(start, x, left) => three(1, start as u64, x as u64, left as u64, values),
+        NextElement::End => 0,
+        NextElement::TooLong => 3,
+        NextElement::BadTable(row) => one(4, row as u64, values),
     }
 }

@@ -10,6 +10,7 @@ use crate::answers::decoded_said;
 use crate::answers::entry_said;
 use crate::answers::got_said;
 use crate::answers::length_said;
+use crate::answers::next_said;
 use crate::answers::place_said;
 use crate::answers::pushed_said;
 use crate::answers::shown_said;
@@ -22,6 +23,9 @@ use logs::unknown_ies::kept_get;
 use logs::unknown_ies::kept_push;
 use message::decode::decode_optional_ies;
 use message::decode::decode_optional_ies_by;
+use message::element::State;
+use message::next::next_element;
+use message::seen::Seen;
 use message::show::show;
 use tables::check::check_mandatory_table;
 use tables::check::check_table;
@@ -38,7 +42,9 @@ ghost use Rattle.definitions.specs.Rows.{rowsOf, firstBad, index as indexOf, pl
 ghost use Rattle.definitions.specs.Values.{showing};
 ghost use Rattle.logs.specs.Kept.{usedOf};
 ghost use Rattle.message.specs.Decodes.{lentOf};
+ghost use Rattle.message.specs.Nexts.{nextOf};
 ghost use Rattle.nas.specs.Entries.{orderPushBy};
+ghost use Rattle.nas.specs.Nexts.{stateBy, NextSays};
 ghost use Rattle.nas.specs.Says.{Says, ReadSays, checkAnswer, placeAnswer, lengthAnswer};
 
 // The length of an unknown element from the octets from its first octet on: 0 and the length, or 1, cut short.
@@ -180,6 +186,35 @@ pub extern "C" fn nas_read_by(
 {
     decoded_said(
         decode_optional_ies_by(number, part, option != 0, rows, kept, order),
+        values,
+    )
+}
+
+// The element at a state of four numbers: position, places met from 0 to 63 and from 64 to 127, highest place. 0, its length,
+// IEI, place or 255, and how it came, and the state is then behind it; at the end 0 and no value; 1, start, first octet and
+// octets to the end; 4 and the first bad row; 3.
+#[no_mangle]
+pub extern "C" fn nas_next(
+    part: &[u8],
+    table: &[u32],
+    start: u8,
+    option: u8,
+    state: &mut [u64; 4],
+    values: &mut [u64; 4],
+) -> u32
+    ensures { λ r. ⌜ NextSays (nextOf (rowsOf (now (table .entry))) start (not (eqb option 0)) (now (part .entry)) (stateBy (now (state .entry)))) r (now (values .entry)) (now (values .exit)) (now (state .entry)) (now (state .exit)) ⌝ }
+{
+    let from = State {
+        at: state[0] as usize,
+        seen: Seen {
+            low: state[1],
+            high: state[2],
+        },
+        highest: state[3] as usize,
+    };
+    next_said(
+        next_element(part, table, start, option != 0, from),
+        state,
         values,
     )
 }

@@ -1,0 +1,56 @@
+-- `write_listing` writes the front of the lent buffer: a text that was written fits it.
+-- That is the test of the room.
+use native.Mathlib.Omega.{arith}
+use mathlib.Core.Path.{sym, _∙_}
+use lib.ListN.{length}
+use lib.Seq.{length-take-le}
+use Rattle.definitions.specs.Listing.{listing}
+use Rattle.listing.proofs.Answers.{written-fits}
+use borrow.Author.Needs.{needs}
+use Rattle.nas_list.proofs.write_listing.Statement.{statement}
+use Rattle.nas_list.proofs.write_listing.Tie as tie
+
+list-part-requires : tie.Need-list-part-requires
+list-part-requires c κs = search needs
+
+enum-known-len : tie.Need-enum-known-len
+enum-known-len c = search needs
+
+slice-reshare-prefix-write-all : tie.Need-slice-reshare-prefix-write-all
+slice-reshare-prefix-write-all c = let w = written-fits (length (listing (c .before .before .before .before .before .before .before .before .before .args .part .now))) (length (c .before .before .before .before .before .before .before .before .before .args .text .now)) (sym (c .before .len .given .1) ∙ c .before .before .before .before .before .list-part .ensures .0) in omega arith
+
+slice-aggregate-write-all : tie.Need-slice-aggregate-write-all
+slice-aggregate-write-all c = sym (length-take-le _ _ (slice-reshare-prefix-write-all (c .before)))
+
+write-all-requires : tie.Need-write-all-requires
+write-all-requires c κs = search needs
+
+enum-told : tie.Need-enum-told
+enum-told c = search needs
+
+same-length : tie.Need-same-length
+same-length c = search needs
+
+returns : tie.Need-returns
+returns c = search needs
+
+same-length-2 : tie.Need-same-length-2
+same-length-2 c = search needs
+
+returns-2 : tie.Need-returns-2
+returns-2 c = search needs
+
+pub write-listing-spec : {M : Type 1} → statement M
+write-listing-spec =
+    tie.close
+    (tie.spec
+    list-part-requires
+    enum-known-len
+    slice-reshare-prefix-write-all
+    slice-aggregate-write-all
+    write-all-requires
+    enum-told
+    same-length
+    returns
+    same-length-2
+    returns-2)
