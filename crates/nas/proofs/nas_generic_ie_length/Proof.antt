@@ -1,6 +1,6 @@
 -- `nas_generic_ie_length` returns the length of an unknown element.
 -- One call and one conversion: the answer of the call is that of the definition.
-use mathlib.Core.Path.{_≡_, ap, _∙_}
+use mathlib.Core.Path.{ap, _∙_}
 use Rattle.definitions.specs.Length.{unknownLength}
 use Rattle.nas.specs.Says.{lengthAs, lengthAnswer}
 use Rattle.nas.proofs.Laws.{said-by, length-back}

@@ -2,7 +2,7 @@
 -- Each arm names the number.
 use Prim.Native.Nat.{ℕ}
 use native.Mathlib.Omega.{arith}
-use mathlib.Core.Path.{_≡_, ap, sym}
+use mathlib.Core.Path.{ap, sym}
 use Rattle.nas.specs.Entries.{placedBy}
 use Rattle.nas.proofs.Laws.{no-entry}
 use Rattle.nas.proofs.entries.entry_of.Statement.{statement}

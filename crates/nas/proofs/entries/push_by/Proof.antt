@@ -1,11 +1,8 @@
 -- `push_by` pushes the entry of a number, or refuses what is no entry after the checks of the used count.
 -- Each arm names what the number is.
 use native.Mathlib.Omega.{arith}
-use mathlib.Core.Path.{_≡_, ap, sym, _∙_}
-use Rattle.definitions.specs.Basic.{Answer}
+use mathlib.Core.Path.{ap, sym, _∙_}
 use Rattle.definitions.specs.Logs.{Logged}
-use Prim.Native.Nat.{ℕ}
-use mathlib.Core.List.{List}
 use Rattle.logs.specs.Kept.{usedOf}
 use Rattle.logs.specs.Order.{frontAs}
 use Rattle.nas.proofs.Laws.{entry-pushed, none-past, none-long, none-bad}
