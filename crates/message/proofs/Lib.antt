@@ -12,3 +12,4 @@ pub mod Entered
 pub mod Decoding
 pub mod Showing
 pub mod SameAnswers
+pub mod Iterated

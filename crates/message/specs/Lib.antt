@@ -6,3 +6,4 @@ pub mod Fills
 pub mod Decodes
 pub mod Nexts
 pub mod Shows
+pub mod Iterates
