@@ -34,10 +34,10 @@ module _ (t : List Row) (start : ℕ) (option : Bool) (part : List ℕ) (passes 
   next-is s = rw (passes, le-ltb 65535 (length part) short)
 
   onward-from :
-    (f : ℕ) (s : State)
-    → s .at ≤ length part
-    → ((e : Element) (v : State) → Nexts t start option part s e v → iterated t start option part f v ≡ foundIn (from t start option part v))
-    → iterated t start option part (suc f) s ≡ foundIn (from t start option part s)
+      (f : ℕ) (s : State)
+      → s .at ≤ length part
+      → ((e : Element) (v : State) → Nexts t start option part s e v → iterated t start option part f v ≡ foundIn (from t start option part v))
+      → iterated t start option part (suc f) s ≡ foundIn (from t start option part s)
   unfolding iterated here onward foundIn told
   onward-from f s i h = ap (λ (n : NextElement). onward n (iterated t start option part f)) (next-is s) ∙ by (here s) refl
     where
