@@ -1,6 +1,6 @@
 -- The measuring loop: what is needed so far and what is left of the part together are what the part needs.
 -- A step counts the element in front; each log needs at most twice the octets passed, so no sum wraps.
-use Prim.Native.Nat.{ℕ, zero, suc, _+_, _*_, _≤_, _<_}
+use Prim.Native.Nat.{ℕ, zero, suc, _+_, _*_, _≤_, _<_, _^_}
 use native.Mathlib.Omega.{arith}
 use mathlib.Core.Path.{_≡_, refl, ap, sym, _∙_}
 use mathlib.Core.List.{List, [], _∷_}
@@ -40,12 +40,13 @@ place-small table index i n = rw (ap (λ (x : Element). x .place) (n .is)) (of (
 module _ (t : List Row) (start : ℕ) (option : Bool) (part : List ℕ) where
   pub record Counting (s : State) (c : Tally) : Type 0 where
     pub within : s .at ≤ length part
+    pub low : s .seen .low < 2 ^ 64
     pub kept : c .kept ≤ 2 * s .at
     pub order : c .order ≤ 2 * s .at
     pub tells : measuredFrom t c (from t start option part s) ≡ measuredFrom t noTally (parted t start option part)
 
   pub begun : Counting startState noTally
-  begun = record { within = omega arith; kept = omega arith; order = omega arith; tells = ap (measuredFrom t noTally) (from-start t start option part) }
+  begun = record { within = omega arith; low = omega arith; kept = omega arith; order = omega arith; tells = ap (measuredFrom t noTally) (from-start t start option part) }
 
   pub counted : (s v : State) (c : Tally) (e : Element) → Counting s c → Nexts t start option part s e v → Counting v (tallied t c e) × (s .at < v .at)
   counted s v c e i n =
@@ -53,6 +54,7 @@ module _ (t : List Row) (start : ℕ) (option : Bool) (part : List ℕ) where
       let f = n .further in (
         record {
           within = omega (arith, n .within);
+          low = n .low;
           kept = omega (arith, r .kept, i .kept);
           order = omega (arith, r .order, i .order, n .some-octet);
           tells =

@@ -16,6 +16,7 @@ use Rattle.definitions.specs.Tables.{tableOf, startOf}
 use Rattle.definitions.proofs.Readings.{read-bad, read-long, read-rows, read-cut, read-kept, read-order, read-done}
 use Rattle.definitions.proofs.RowLaws.{listed}
 use Rattle.definitions.proofs.TableLaws.{index-at, few-places}
+use Rattle.tables.proofs.WholeRows.{whole-rows}
 use Rattle.message.specs.Steps.{Indexed}
 use Rattle.message.specs.Measures.{measuredFrom, noTally}
 use Rattle.message.specs.Fills.{notesOf, Ready, Written}
@@ -30,6 +31,7 @@ indexed table ix passes e =
     record {
       entry = λ iei h. ap (λ (x : List ℕ). getD x iei 0) e ∙ index-at (rowsOf table) iei 0 h;
       below = λ iei k p. let i = listed (rowsOf table) iei k passes p .inside in let f = few-places (rowsOf table) passes in omega arith;
+      whole = whole-rows table passes;
     }
 
 -- a refusal

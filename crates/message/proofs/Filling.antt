@@ -1,6 +1,6 @@
 -- The filling loop: what is left to enter gives, from the present rows and logs, what the whole part gives from those at entry.
 -- A step enters the element in front; a log's pieces follow one another.
-use Prim.Native.Nat.{ℕ, zero, suc, _+_, _*_, _≤_, _<_}
+use Prim.Native.Nat.{ℕ, zero, suc, _+_, _*_, _≤_, _<_, _^_}
 use native.Mathlib.Omega.{arith}
 use mathlib.Core.Path.{_≡_, refl, ap, subst, sym, _∙_}
 use mathlib.Core.List.{List, [], _∷_, _++_}
@@ -88,6 +88,7 @@ module _ (table index : List ℕ) (start : ℕ) (option plain : Bool) (part rows
     pub left : List DefElement
     pub reads : from t start option part s ≡ elements left
     pub within : s .at ≤ length part
+    pub low : s .seen .low < 2 ^ 64
     pub rows-long : length rows ≡ length rows₀
     pub kept-long : length kept ≡ length kept₀
     pub order-long : length order ≡ length order₀
@@ -105,6 +106,7 @@ module _ (table index : List ℕ) (start : ℕ) (option plain : Bool) (part rows
           left = whole;
           reads = from-start t start option part ∙ ready .decodes;
           within = omega arith;
+          low = omega arith;
           rows-long = refl;
           kept-long = refl;
           order-long = refl;
@@ -199,6 +201,7 @@ module _ (table index : List ℕ) (start : ℕ) (option plain : Bool) (part rows
             left = split .rest;
             reads = split .reads;
             within = omega (arith, n .further, n .within);
+            low = n .low;
             rows-long = rows-same ∙ i .rows-long;
             kept-long = length-overAt k entry kept (omega (arith, kept-fits)) ∙ i .kept-long;
             order-long = length-overAt o note order (omega (arith, order-fits)) ∙ i .order-long;

@@ -1,7 +1,7 @@
 -- Laws that the proofs of this crate cite.
 pub mod Sets
 pub mod Frames
-pub mod Known
+pub mod Came
 pub mod Steps
 pub mod Nexts
 pub mod Tallies

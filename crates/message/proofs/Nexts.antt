@@ -17,6 +17,7 @@ use Rattle.message.specs.Steps.{elementOf, stateOf, stepOf, metOf}
 use Rattle.message.specs.declared.element.State.{State}
 use Rattle.message.specs.declared.element.Element.{Element}
 use Rattle.message.specs.declared.element.Step.{Step}
+use Rattle.message.proofs.Steps.{step-end}
 
 -- the state behind an element has met what the definition says
 met-of : (e : DefElement) (m : Met) → metOf (stateOf e m) ≡ m
@@ -44,6 +45,7 @@ module _ (t : List Row) (start : ℕ) (option : Bool) (part : List ℕ) where
     pub some-octet : 1 ≤ e .len
     pub further : v .at ≡ s .at + e .len
     pub within : s .at + e .len ≤ length part
+    pub low : v .seen .low < 2 ^ 64
     pub parts : from s ≡ before element (from v)
 
   module _ (s : State) (inside : s .at ≤ length part) where
@@ -64,6 +66,9 @@ module _ (t : List Row) (start : ℕ) (option : Bool) (part : List ℕ) where
         of ended q f = parts-by ended q
         of (cut a x n) q f = let z : _≡_ {A = ℕ} 0 1 = cc in absurd (omega arith)
         of (next d m) q f = let z : _≡_ {A = ℕ} 0 1 = cc in absurd (omega arith)
+
+    pub at-end : length part ≤ s .at → from s ≡ elements []
+    at-end h = ends (ap stepOf (sym (step-end t start option (metOf s) (s .at) left (simp length-drop (omega arith)))))
 
     pub cuts : {a x n : ℕ} → Step.Cut a x n ≡ stepOf here → from s ≡ cutShort a x n
     unfolding stepThen
@@ -97,6 +102,7 @@ module _ (t : List Row) (start : ℕ) (option : Bool) (part : List ℕ) where
           some-octet = f .some-octet;
           further = ap (λ (n : ℕ). n + length (d .octets)) a;
           within = omega (arith, f .fits);
+          low = omega arith;
           parts = parts-by (next d m) q ∙ ap (before d) (rw (r, ← k, a));
         }
 

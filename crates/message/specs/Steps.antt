@@ -1,18 +1,23 @@
 -- A step of reading by the definition of a step: each answer, as the numbers that the code holds.
-use Prim.Native.Nat.{ℕ, _+_, _<_}
+use Prim.Native.Nat.{ℕ, _+_, _<_, max}
 use mathlib.Core.Path.{_≡_}
 use mathlib.Core.List.{List}
+use mathlib.Core.Bool.{Bool}
 use mathlib.Core.Option.{Option, none, some, Option·getD}
 use lib.ListN.{length, getD}
-use Rattle.definitions.specs.Rows.{rowsOf, placeOf, indexEntry}
-use Rattle.definitions.specs.Elements.{Verdict, accepted, unknown, malformed, repeated, outOfSequence, Element as DefElement, ieiAt, Met, Step as DefStep, next, cut, ended}
+use lib.Dec.{eqb}
+use Rattle.definitions.specs.Basic.{pick}
+use Rattle.definitions.specs.Rows.{Row, form, rowsOf, placeOf, indexEntry}
+use Rattle.definitions.specs.Length.{whole, required}
+use Rattle.definitions.specs.Elements.{Verdict, accepted, unknown, malformed, repeated, outOfSequence, judged, taken, octetsOf, Element as DefElement, ieiAt, Met, Step as DefStep, next, cut, ended}
 use Rattle.logs.specs.declared.ie_order.Placed.{Placed}
 use Rattle.logs.specs.declared.ie_order.IgnoredIeReason.{IgnoredIeReason}
-use Rattle.message.specs.Seen.{setOf, seenOf}
-use Rattle.message.specs.declared.seen.Seen.{Seen}
+use Rattle.tables.specs.Numbers.{Whole}
+use Rattle.message.specs.Seen.{setOf, seenOf, includingPlace}
 use Rattle.message.specs.declared.element.State.{State}
 use Rattle.message.specs.declared.element.Element.{Element}
 use Rattle.message.specs.declared.element.Step.{Step}
+use Rattle.message.specs.declared.element.Came.{Came}
 
 -- how an element with an IEI came, by its verdict
 abbrev pub placedFor : ℕ → Verdict → Placed
@@ -38,12 +43,32 @@ stepOf (next e m) = Step.Next (elementOf e) (stateOf e m)
 stepOf (cut a x n) = Step.Cut a x n
 stepOf ended = Step.End
 
--- an index of 256 octets whose entries are a table's, every place below 128
+-- ---- as the code finds a step: how the element came, and the state behind it
+
+-- an element that has a place, by its row
+unfoldable pub cameKnown : Row → ℕ → Bool → Bool → Bool → List ℕ → Came
+cameKnown r iei option again behind s =
+    let n : Option ℕ = whole (form r) s in
+    Came.Is (length (octetsOf n s)) (placedFor iei (judged option again behind (taken r n s)))
+
+-- an element without one, by its first octet and its length
+abbrev pub cameStrange : ℕ → List ℕ → Option ℕ → Came
+cameStrange x s (some n) = Came.Is n Placed.Unknown
+cameStrange x s none = pick (required x) Came.Cut (Came.Is (length s) Placed.Unknown)
+
+-- the state behind an element of a place or 255, of so many octets
+unfoldable pub stateAfter : State → ℕ → ℕ → State
+stateAfter s k n =
+    pick (eqb k 255) (record { at = s .at + n; seen = s .seen; highest = s .highest })
+    (record { at = s .at + n; seen = seenOf (includingPlace k (setOf (s .seen))); highest = max k (s .highest) })
+
+-- the step of a state: the first octet, its IEI, the place or 255, the octets that are left, how the element came
+abbrev pub foundAt : State → ℕ → ℕ → ℕ → ℕ → Came → Step
+foundAt s x iei k left (Came.Is n p) = Step.Next (record { start = s .at; len = n; iei = iei; place = k; placed = p }) (stateAfter s k n)
+foundAt s x iei k left Came.Cut = Step.Cut (s .at) x left
+
+-- an index of 256 octets whose entries are a table's, every place below 128, every row whole
 pub record Indexed (table index : List ℕ) : Type 0 where
   pub entry : (iei : ℕ) → iei < 256 → getD index iei 0 ≡ indexEntry (rowsOf table) iei
   pub below : (iei k : ℕ) → placeOf (rowsOf table) iei ≡ some k → k < 128
-
--- an element of so many octets at a position, and the state behind it
-abbrev pub foundAt : ℕ → ℕ → ℕ → ℕ → Placed → Seen → ℕ → Step
-foundAt at len iei place placed seen highest =
-    Step.Next (record { start = at; len = len; iei = iei; place = place; placed = placed }) (record { at = at + len; seen = seen; highest = highest })
+  pub whole : Whole table

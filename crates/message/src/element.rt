@@ -11,20 +11,21 @@ use logs::length::tlv_length;
 use logs::length::tlve_length;
 use logs::length::unknown_kind;
 use tables::rows::Form;
-use tables::rows::form_at;
-use tables::rows::kinds_at;
-use tables::rows::least_at;
+use tables::rows::Numbers;
+use tables::rows::form_of;
+use tables::rows::numbers_at;
 ghost use mathlib.Core.Path.{_≡_};
 ghost use mathlib.Core.Option.{some};
 ghost use Prim.Native.Nat.{_+_, _≤_, _<_, _^_, max};
 ghost use lib.ListN.{length, getD, take, drop};
 ghost use Rattle.definitions.specs.Basic.{receivable};
-ghost use Rattle.definitions.specs.Rows.{rowsOf, rowAt, form, ieiOf};
+ghost use Rattle.definitions.specs.Rows.{rowsOf, form, ieiOf};
 ghost use Rattle.definitions.specs.Length.{header, within, whole, unknownLength, required};
-ghost use Rattle.definitions.specs.Elements.{takenBy, judged, known, meet, next, strangerStep, step};
+ghost use Rattle.definitions.specs.Elements.{takenBy, judged, step};
 ghost use Rattle.logs.specs.Answers.{lengthOf};
 ghost use Rattle.tables.specs.Forms.{formAs};
-ghost use Rattle.message.specs.Steps.{placedFor, foundAt, stepOf, metOf, Indexed};
+ghost use Rattle.tables.specs.Numbers.{rowBy};
+ghost use Rattle.message.specs.Steps.{placedFor, cameKnown, cameStrange, stateAfter, stepOf, metOf, Indexed};
 
 // No place: an IEI that no row lists.
 pub const NO_PLACE: usize = 255;
@@ -51,6 +52,12 @@ pub enum Step {
     Next(Element, State),
     Cut(usize, u8, usize),
     End,
+}
+
+// How an element came: so many octets, by a verdict; or an unknown element that is cut short and must be understood.
+pub enum Came {
+    Is(usize, Placed),
+    Cut,
 }
 
 // The IEI of a first octet: from 0x80 up the top four bits, with zeros below.
@@ -108,15 +115,15 @@ fn fixed_length(n: usize, octets: &[u8]) -> Length
 }
 
 // Whether a complete element is one that its row takes: at least the least length, and receivable.
-fn taken_by(table: &[u32], place: usize, form: Form, element: &[u8]) -> bool
-    requires { ⌜ (formAs form ≡ Rattle.definitions.specs.Rows.form (rowAt (rowsOf (now table)) place)) × (Rattle.definitions.specs.Length.header (formAs form) ≤ length (now element)) ⌝ }
-    ensures { λ r. ⌜ r ≡ takenBy (rowAt (rowsOf (now (table .entry))) place) (now (element .entry)) ⌝ }
+fn taken_by(row: Numbers, element: &[u8]) -> bool
+    requires { ⌜ Rattle.definitions.specs.Length.header (Rattle.definitions.specs.Rows.form (rowBy row)) ≤ length (now element) ⌝ }
+    ensures { λ r. ⌜ r ≡ takenBy (rowBy row) (now (element .entry)) ⌝ }
 {
-    if element.len() < least_at(table, place) {
+    if element.len() < row.least {
         return false;
     }
-    let h = header(form);
-    receivable(kinds_at(table, place), &element[h..])
+    let h = header(form_of(row.code, row.size));
+    receivable(row.kinds, &element[h..])
 }
 
 // The verdict: accepted when its row takes it, not repeated, and in sequence or the option is on; else the first reason that
@@ -161,91 +168,38 @@ fn higher(a: usize, b: usize) -> usize
     a
 }
 
-// An element of so many octets, and where reading is behind it.
-fn found(
-    state: State,
-    len: usize,
-    iei: u8,
-    place: usize,
-    placed: Placed,
-    seen: Seen,
-    highest: usize,
-) -> Step
-    requires { ⌜ state .at + len < 2 ^ 64 ⌝ }
-    ensures { λ r. ⌜ r ≡ foundAt (state .at) len iei place placed seen highest ⌝ }
-{
-    let at = state.at;
-    Step::Next(
-        Element {
-            start: at,
-            len,
-            iei,
-            place,
-            placed,
-        },
-        State {
-            at: at + len,
-            seen,
-            highest,
-        },
-    )
-}
-
-// An element that has a place, from its first octet on.
-fn known_element(
+// An element that has a place, from its first octet on, by its row; cut short, it takes the rest.
+pub(crate) fn came_known(
     left: &[u8],
-    table: &[u32],
-    place: usize,
+    row: Numbers,
     iei: u8,
     option: bool,
-    state: State,
-) -> Step
-    requires { ⌜ (place < 128) × (0 < length (now left)) × (iei ≡ ieiOf (getD (now left) 0 0)) × (state .at + length (now left) < 2 ^ 64) ⌝ }
-    ensures { λ r. ⌜ r ≡ stepOf (next (known (rowsOf (now (table .entry))) option (metOf state) (state .at) (now (left .entry)) place) (meet place (metOf state))) ⌝ }
+    again: bool,
+    behind: bool,
+) -> Came
+    ensures { λ r. ⌜ r ≡ cameKnown (rowBy row) iei option again behind (now (left .entry)) ⌝ }
 {
-    let form = form_at(table, place);
-    let seen = state.seen;
-    let highest = state.highest;
-    let again = seen_has(seen, place);
-    let met = seen_with(seen, place);
-    let behind = place < highest;
-    let next = higher(place, highest);
-    match frame(form, left) {
+    match frame(form_of(row.code, row.size), left) {
         Length::Octets(n) => {
-            let taken = taken_by(table, place, form, &left[..n]);
-            let placed = judge(option, again, behind, taken, iei);
-            found(state, n, iei, place, placed, met, next)
+            let taken = taken_by(row, &left[..n]);
+            Came::Is(n, judge(option, again, behind, taken, iei))
         }
-        Length::CutShort => {
-            let placed = judge(option, again, behind, false, iei);
-            found(state, left.len(), iei, place, placed, met, next)
-        }
+        Length::CutShort => Came::Is(left.len(), judge(option, again, behind, false, iei)),
     }
 }
 
 // An element without a place, from its first octet on: as long as the unknown rule says; cut short, it is refused if it must be
 // understood, else takes the rest.
-fn unknown_element(left: &[u8], x: u8, iei: u8, tlve_start: u8, state: State) -> Step
-    requires { ⌜ (0 < length (now left)) × (x ≡ getD (now left) 0 0) × (iei ≡ ieiOf x) × (state .at + length (now left) < 2 ^ 64) ⌝ }
-    ensures { λ r. ⌜ r ≡ stepOf (strangerStep (metOf state) (state .at) x (now (left .entry)) (unknownLength «tlve_start» (now (left .entry)))) ⌝ }
+pub(crate) fn came_unknown(left: &[u8], x: u8, tlve_start: u8) -> Came
+    ensures { λ r. ⌜ r ≡ cameStrange x (now (left .entry)) (unknownLength «tlve_start» (now (left .entry))) ⌝ }
 {
-    let seen = state.seen;
-    let highest = state.highest;
     match generic_ie_length(left, tlve_start) {
-        Length::Octets(n) => found(state, n, iei, NO_PLACE, Placed::Unknown, seen, highest),
+        Length::Octets(n) => Came::Is(n, Placed::Unknown),
         Length::CutShort => {
             if must_be_understood(x) {
-                return Step::Cut(state.at, x, left.len());
+                return Came::Cut;
             }
-            found(
-                state,
-                left.len(),
-                iei,
-                NO_PLACE,
-                Placed::Unknown,
-                seen,
-                highest,
-            )
+            Came::Is(left.len(), Placed::Unknown)
         }
     }
 }
@@ -254,6 +208,31 @@ fn wide(x: u8) -> usize
     ensures { λ r. ⌜ r ≡ x ⌝ }
 {
     x as usize
+}
+
+// What an index says of an IEI: a place or NO_PLACE.
+pub(crate) fn entry_of(index: &[u8; 256], iei: u8) -> usize
+    ensures { λ r. ⌜ r ≡ getD (now (index .entry)) iei 0 ⌝ }
+{
+    wide(index[wide(iei)])
+}
+
+// Where reading is behind an element of a place or NO_PLACE, of so many octets.
+pub(crate) fn after(state: State, place: usize, len: usize) -> State
+    requires { ⌜ state .at + len < 2 ^ 64 ⌝ }
+    ensures { λ r. ⌜ r ≡ stateAfter state place len ⌝ }
+{
+    let at = state.at + len;
+    let seen = state.seen;
+    let highest = state.highest;
+    if place == NO_PLACE {
+        return State { at, seen, highest };
+    }
+    State {
+        at,
+        seen: seen_with(seen, place),
+        highest: higher(place, highest),
+    }
 }
 
 // What stands at a state's position, by a table that passes its check and its index.
@@ -274,10 +253,28 @@ pub(crate) fn element_step(
     }
     let x = part[at];
     let iei = iei_of(x);
-    let place = wide(index[wide(iei)]);
+    let place = entry_of(index, iei);
     let left = &part[at..];
-    if place == NO_PLACE {
-        return unknown_element(left, x, iei, tlve_start, state);
+    let seen = state.seen;
+    let highest = state.highest;
+    let came = if place == NO_PLACE {
+        came_unknown(left, x, tlve_start)
+    } else {
+        let row = numbers_at(table, place);
+        let again = seen_has(seen, place);
+        came_known(left, row, iei, option, again, place < highest)
+    };
+    match came {
+        Came::Is(len, placed) => Step::Next(
+            Element {
+                start: at,
+                len,
+                iei,
+                place,
+                placed,
+            },
+            after(state, place, len),
+        ),
+        Came::Cut => Step::Cut(at, x, left.len()),
     }
-    known_element(left, table, place, iei, option, state)
 }

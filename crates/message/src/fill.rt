@@ -1,17 +1,24 @@
 // What reading writes into the lent rows and logs, once it is known that there is room.
+use crate::element::Came;
 use crate::element::Element;
+use crate::element::NO_PLACE;
 use crate::element::State;
-use crate::element::Step;
-use crate::element::element_step;
+use crate::element::after;
+use crate::element::came_known;
+use crate::element::came_unknown;
+use crate::element::entry_of;
 use crate::element::header;
+use crate::element::iei_of;
 use crate::seen::Seen;
+use crate::seen::seen_has;
 use logs::ie_order::Placed;
 use logs::ie_order::entry_len;
 use logs::ie_order::put_placed;
 use logs::unknown_ies::count_len;
 use logs::unknown_ies::put_raw;
 use octets::part;
-use tables::rows::form_at;
+use tables::rows::form_of;
+use tables::rows::numbers_at;
 use tables::rows::places;
 ghost use mathlib.Core.Path.{_≡_};
 ghost use Prim.Native.Nat.{_+_, _*_, _≤_, _<_};
@@ -21,6 +28,7 @@ ghost use Rattle.definitions.specs.Basic.{over, overAt};
 ghost use Rattle.definitions.specs.Rows.{rowsOf};
 ghost use Rattle.definitions.specs.Logs.{keptEntry};
 ghost use Rattle.definitions.specs.Elements.{elementsOf, parted};
+ghost use Rattle.tables.specs.Numbers.{Whole};
 ghost use Rattle.message.specs.Fills.{RowFits, rowEntered, keptOfFound, noteBy, Ready, Filled, Written};
 
 // No number in the first n.
@@ -47,7 +55,7 @@ fn set_row(rows: &mut [u32], at: usize, start: u32, len: u32)
 
 // The row of an accepted element: received, and where its value is.
 fn enter_row(rows: &mut [u32], table: &[u32], e: Element)
-    requires { ⌜ RowFits (rowsOf (now table)) e (now rows) ⌝ }
+    requires { ⌜ Whole (now table) × RowFits (rowsOf (now table)) e (now rows) ⌝ }
     ensures { λ r. ⌜ now (rows .exit) ≡ rowEntered (rowsOf (now (table .entry))) e (now (rows .entry)) ⌝ }
 {
     let placed = e.placed;
@@ -56,7 +64,8 @@ fn enter_row(rows: &mut [u32], table: &[u32], e: Element)
     let len = e.len;
     match placed {
         Placed::Known(_) => {
-            let h = header(form_at(table, place));
+            let row = numbers_at(table, place);
+            let h = header(form_of(row.code, row.size));
             set_row(rows, 3 * place, (start + h) as u32, (len - h) as u32);
         }
         Placed::Unknown => {}
@@ -123,18 +132,38 @@ fn fill_elements(
     let mut k = 0;
     let mut o = 0;
     loop {
-        match element_step(octets, table, index, tlve_start, option, state) {
-            Step::Next(e, next) => {
-                let placed = e.placed;
+        let at = state.at;
+        if at >= octets.len() {
+            return;
+        }
+        let x = octets[at];
+        let iei = iei_of(x);
+        let place = entry_of(index, iei);
+        let left = &octets[at..];
+        let seen = state.seen;
+        let highest = state.highest;
+        let came = if place == NO_PLACE {
+            came_unknown(left, x, tlve_start)
+        } else {
+            let row = numbers_at(table, place);
+            let again = seen_has(seen, place);
+            came_known(left, row, iei, option, again, place < highest)
+        };
+        match came {
+            Came::Is(len, placed) => {
+                let e = Element {
+                    start: at,
+                    len,
+                    iei,
+                    place,
+                    placed,
+                };
                 enter_row(rows, table, e);
                 k = keep(octets, e, kept, k);
                 o = note(placed, plain, order, o);
-                state = next;
+                state = after(state, place, len);
             }
-            Step::Cut(_, _, _) => {
-                return;
-            }
-            Step::End => {
+            Came::Cut => {
                 return;
             }
         }

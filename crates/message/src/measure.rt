@@ -1,17 +1,24 @@
 // How much reading a part needs of the lent logs, before anything is written.
+use crate::element::Came;
 use crate::element::Element;
+use crate::element::NO_PLACE;
 use crate::element::State;
-use crate::element::Step;
-use crate::element::element_step;
+use crate::element::after;
+use crate::element::came_known;
+use crate::element::came_unknown;
+use crate::element::entry_of;
+use crate::element::iei_of;
 use crate::seen::Seen;
+use crate::seen::seen_has;
 use logs::ie_order::Placed;
 use logs::unknown_ies::count_len;
-use tables::rows::first_iei;
+use tables::rows::numbers_at;
 ghost use mathlib.Core.Path.{_≡_};
 ghost use Prim.Native.Nat.{_+_, _≤_, _<_, _^_};
 ghost use lib.ListN.{length};
 ghost use Rattle.definitions.specs.Rows.{rowsOf};
 ghost use Rattle.definitions.specs.Elements.{parted};
+ghost use Rattle.tables.specs.Numbers.{Whole};
 ghost use Rattle.message.specs.Steps.{Indexed};
 ghost use Rattle.message.specs.Measures.{inOrder, withAside, tallied, measuredFrom, noTally};
 
@@ -32,6 +39,7 @@ pub enum Measured {
 
 // Whether the table says it all with an accepted element too: a place not lower than may come, under its first IEI.
 fn in_order(table: &[u32], t: Tally, place: usize, iei: u8) -> bool
+    requires { ⌜ Whole (now table) ⌝ }
     ensures { λ r. ⌜ r ≡ inOrder (rowsOf (now (table .entry))) t place iei ⌝ }
 {
     if !t.plain {
@@ -40,12 +48,13 @@ fn in_order(table: &[u32], t: Tally, place: usize, iei: u8) -> bool
     if place < t.least {
         return false;
     }
-    (iei as u32) == first_iei(table, place)
+    let row = numbers_at(table, place);
+    (iei as u32) == row.first
 }
 
 // With one element more.
 fn with_element(table: &[u32], t: Tally, e: Element) -> Tally
-    requires { ⌜ (t .kept + e .len < 2 ^ 32) × (t .order < 2 ^ 32) × (e .place < 2 ^ 32) ⌝ }
+    requires { ⌜ Whole (now table) × (t .kept + e .len < 2 ^ 32) × (t .order < 2 ^ 32) × (e .place < 2 ^ 32) ⌝ }
     ensures { λ r. ⌜ r ≡ tallied (rowsOf (now (table .entry))) t e ⌝ }
 {
     let placed = e.placed;
@@ -99,16 +108,37 @@ pub(crate) fn measure(
         least: 0,
     };
     loop {
-        match element_step(part, table, index, tlve_start, option, state) {
-            Step::Next(e, next) => {
+        let at = state.at;
+        if at >= part.len() {
+            return Measured::Needs(t.kept, t.order, t.plain);
+        }
+        let x = part[at];
+        let iei = iei_of(x);
+        let place = entry_of(index, iei);
+        let left = &part[at..];
+        let seen = state.seen;
+        let highest = state.highest;
+        let came = if place == NO_PLACE {
+            came_unknown(left, x, tlve_start)
+        } else {
+            let row = numbers_at(table, place);
+            let again = seen_has(seen, place);
+            came_known(left, row, iei, option, again, place < highest)
+        };
+        match came {
+            Came::Is(len, placed) => {
+                let e = Element {
+                    start: at,
+                    len,
+                    iei,
+                    place,
+                    placed,
+                };
                 t = with_element(table, t, e);
-                state = next;
+                state = after(state, place, len);
             }
-            Step::Cut(start, x, left) => {
-                return Measured::Cut(start, x, left);
-            }
-            Step::End => {
-                return Measured::Needs(t.kept, t.order, t.plain);
+            Came::Cut => {
+                return Measured::Cut(at, x, left.len());
             }
         }
     }

@@ -3,3 +3,4 @@ pub mod Marking
 pub mod Steps
 pub mod RealLaws
 pub mod Laws
+pub mod WholeRows

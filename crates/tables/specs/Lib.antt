@@ -3,3 +3,4 @@ pub mod Forms
 pub mod Marks
 pub mod Answers
 pub mod Real
+pub mod Numbers

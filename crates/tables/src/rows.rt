@@ -6,6 +6,7 @@ ghost use lib.ListN.{length, getD, drop};
 ghost use Rattle.definitions.specs.Rows.{rowsOf, rowAt, ieis, form, formOf, firstIei};
 ghost use Rattle.definitions.specs.Mandatory.{mandatoryRowsOf, mandatoryRowAt, mandatoryForm, mandatoryFormOf};
 ghost use Rattle.tables.specs.Forms.{formAs, mandatoryFormAs};
+ghost use Rattle.tables.specs.Numbers.{numbersAt};
 
 // The form of an optional element; fixed has so many value octets after the IEI.
 pub enum Form {
@@ -13,6 +14,15 @@ pub enum Form {
     Fixed(usize),
     Tlv,
     TlvE,
+}
+
+// What reading asks of a row: its first IEI, the code and the size of its form, the least whole length, the set of kinds.
+pub struct Numbers {
+    pub first: u32,
+    pub code: u32,
+    pub size: usize,
+    pub least: usize,
+    pub kinds: u32,
 }
 
 // The form of a mandatory element.
@@ -88,7 +98,31 @@ pub fn kinds_at(table: &[u32], place: usize) -> u32
     number_at(table, place, 8)
 }
 
-fn form_of(code: u32, size: usize) -> Form
+// The numbers of a row that the table has whole, at once; of any other each is 0.
+pub fn numbers_at(table: &[u32], place: usize) -> Numbers
+    ensures { λ r. ⌜ r ≡ numbersAt (now (table .entry)) place ⌝ }
+{
+    if place >= table.len() / 9 {
+        return Numbers {
+            first: 0,
+            code: 0,
+            size: 0,
+            least: 0,
+            kinds: 0,
+        };
+    }
+    let start = 9 * place;
+    Numbers {
+        first: table[start + 1],
+        code: table[start + 5],
+        size: wide(table[start + 6]),
+        least: wide(table[start + 7]),
+        kinds: table[start + 8],
+    }
+}
+
+// The form that a code and a size say.
+pub fn form_of(code: u32, size: usize) -> Form
     ensures { λ r. ⌜ formAs r ≡ formOf code size ⌝ }
 {
     match code {

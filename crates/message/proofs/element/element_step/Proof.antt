@@ -1,21 +1,23 @@
--- `element_step` is the definition's step at the position: the end, an element without a place, or one with.
--- The index says which; what is handed on is what is left of the part.
+-- `element_step` is the definition's step at the position: the end, or what the element that came there makes of it.
+-- The index says which of the two ways it came; what is handed on is what is left of the part.
 use Prim.Native.Nat.{ℕ, _+_, _≤_, _<_}
 use native.Mathlib.Omega.{arith}
-use mathlib.Core.Path.{_≡_, ap, sym, _∙_}
-use mathlib.Core.Option.{Option, none, some}
+use mathlib.Core.Path.{_≡_, refl, ap, sym, _∙_}
+use mathlib.Core.Logic.{⊎-elim, inl, inr}
 use lib.ListN.{length, getD, drop, length-drop}
-use Rattle.definitions.specs.Rows.{rowsOf, ieiOf, placeOf}
-use Rattle.definitions.specs.Elements.{step, placeStep}
+use Rattle.definitions.specs.Rows.{rowsOf}
+use Rattle.definitions.specs.Elements.{step}
 use Rattle.definitions.proofs.Lists.{to-end}
-use Rattle.message.specs.Steps.{stepOf, metOf}
-use Rattle.message.proofs.Steps.{step-end, step-some, no-place, some-place, left-first}
+use Rattle.message.specs.Steps.{stepOf, metOf, foundAt}
+use Rattle.message.proofs.Steps.{step-end}
+use Rattle.message.proofs.Came.{Ways, came-here}
+use Rattle.message.proofs.Nexts.{nexts}
 use borrow.Author.Needs.{needs}
 use Rattle.message.proofs.element.element_step.Statement.{statement}
 use Rattle.message.proofs.element.element_step.Tie as tie
 
 returns : tie.Need-returns
-returns c = ap stepOf (sym (step-end (rowsOf (c .before .before .before .args .table .now)) (c .before .before .before .args .tlve-start) (c .before .before .before .args .option) (metOf (c .before .before .before .args .state)) (c .before .before .before .args .state .at) (drop (c .before .before .before .args .state .at) (c .before .before .before .args .part .now)) (simp length-drop (omega arith))))
+returns c = let a = c .before .before .before .args in ap stepOf (sym (step-end (rowsOf (a .table .now)) (a .tlve-start) (a .option) (metOf (a .state)) (a .state .at) (drop (a .state .at) (a .part .now)) (simp length-drop (omega arith))))
 
 shared-slice-read-x : tie.Need-shared-slice-read-x
 shared-slice-read-x c = search needs
@@ -23,14 +25,8 @@ shared-slice-read-x c = search needs
 iei-of-requires : tie.Need-iei-of-requires
 iei-of-requires c κs = search needs
 
-wide-requires : tie.Need-wide-requires
-wide-requires c κs = search needs
-
-element-copy-out-wide : tie.Need-element-copy-out-wide
-element-copy-out-wide c = search needs
-
-wide-requires-2 : tie.Need-wide-requires-2
-wide-requires-2 c κs = search needs
+entry-of-requires : tie.Need-entry-of-requires
+entry-of-requires c κs = search needs
 
 sub-left : tie.Need-sub-left
 sub-left c = search needs
@@ -41,35 +37,48 @@ part-left-start c = search needs
 part-left-end : tie.Need-part-left-end
 part-left-end c = search needs
 
--- the IEI is an octet, and the place is the index's entry
-octet : (c : tie.After-iei-of) → ieiOf (getD (c .before .before .before .before .before .args .part .now) (c .before .before .before .before .before .args .state .at) 0) < 256
-octet c = rw (← c .iei-of .ensures) (omega arith)
+came-unknown-requires : tie.Need-came-unknown-requires
+came-unknown-requires c κs = search needs
 
-entry : (c : tie.After-wide2) → c .wide2 .result ≡ getD (c .before .before .before .before .before .before .before .before .args .index .now) (ieiOf (getD (c .before .before .before .before .before .before .before .before .args .part .now) (c .before .before .before .before .before .before .before .before .args .state .at) 0)) 0
-entry c = c .wide2 .ensures ∙ ap (λ (n : ℕ). getD (c .before .before .before .before .before .before .before .before .args .index .now) n 0) (c .before .before .wide .ensures ∙ c .before .before .before .iei-of .ensures)
+numbers-at-requires : tie.Need-numbers-at-requires
+numbers-at-requires c κs = search needs
 
-unknown-element-requires : tie.Need-unknown-element-requires
-unknown-element-requires c κs = rw to-end (simp length-drop (omega arith), sym (left-first (c .before .before .before .before .before .before .before .before .before .before .args .state .at) (c .before .before .before .before .before .before .before .before .before .before .args .part .now)), c .before .before .before .before .before .iei-of .ensures, simp length-drop (omega arith))
+seen-has-requires : tie.Need-seen-has-requires
+seen-has-requires c κs = search needs
+
+came-known-requires : tie.Need-came-known-requires
+came-known-requires c κs = search needs
+
+enum-known-came : tie.Need-enum-known-came
+enum-known-came c = search needs
+
+-- how the element came, by the way to it, and the step that this is
+ways : (c : tie.Joined2) → let a = c .before .before .before .before .before .before .before .before .before .args in Ways (a .table .now) (a .index .now) (c .before .before .before .before .before .before .before .before .before .pre) (a .tlve-start) (a .option) (a .part .now) (a .state) (omega arith) (omega arith) (getD (a .part .now) (a .state .at) 0) (c .before .before .before .before .iei-of .result) (c .before .before .before .entry-of .result) (c .if2 .came′)
+ways c =
+    ⊎-elim
+    (λ w. inl (w .0 .taken, w .2 ∙ rw to-end at (w .1 .ensures)))
+    (λ w. inr (w .0 .left, w .4 ∙ rw (to-end, w .1 .ensures, w .2 .ensures) at (w .3 .ensures)))
+    (c .if2 .came)
+
+here : (c : tie.Joined2) → let a = c .before .before .before .before .before .before .before .before .before .args in foundAt (a .state) (getD (a .part .now) (a .state .at) 0) (c .before .before .before .before .iei-of .result) (c .before .before .before .entry-of .result) (length (drop (a .state .at) (a .part .now))) (c .if2 .came′) ≡ stepOf (step (rowsOf (a .table .now)) (a .tlve-start) (a .option) (metOf (a .state)) (a .state .at) (drop (a .state .at) (a .part .now)))
+here c =
+    let a = c .before .before .before .before .before .before .before .before .before .args in
+    came-here (a .table .now) (a .index .now) (c .before .before .before .before .before .before .before .before .before .pre) (a .tlve-start) (a .option) (a .part .now) (a .state) (omega arith) (omega arith) _ _ _ refl (c .before .before .before .before .iei-of .ensures) (omega arith) (c .before .before .before .entry-of .ensures) (c .if2 .came′) (ways c)
+
+after-requires : tie.Need-after-requires
+after-requires c κs =
+    let a = c .before .before .before .before .before .before .before .before .before .before .before .before .args in
+    let n = nexts (rowsOf (a .table .now)) (a .tlve-start) (a .option) (a .part .now) (a .state) (omega arith) _ _ (rw (c .before .came .given .1) at (here (c .before .before .before))) in
+    omega (arith, n .within)
+
+enum-told : tie.Need-enum-told
+enum-told c = search needs
 
 returns-2 : tie.Need-returns-2
-unfolding placeStep
-returns-2 c =
-    let x = getD (c .before .before .before .before .before .before .before .before .before .before .before .args .part .now) (c .before .before .before .before .before .before .before .before .before .before .before .args .state .at) 0 in
-    let p : placeOf (rowsOf (c .before .before .before .before .before .before .before .before .before .before .before .args .table .now)) (ieiOf x) ≡ none = no-place _ _ (c .before .before .before .before .before .before .before .before .before .before .before .pre) (ieiOf x) (octet (c .before .before .before .before .before .before)) (sym (entry (c .before .before .before)) ∙ c .before .if2 .taken) in
-    rw (step-some (rowsOf (c .before .before .before .before .before .before .before .before .before .before .before .args .table .now)) (c .before .before .before .before .before .before .before .before .before .before .before .args .tlve-start) (c .before .before .before .before .before .before .before .before .before .before .before .args .option) (metOf (c .before .before .before .before .before .before .before .before .before .before .before .args .state)) (c .before .before .before .before .before .before .before .before .before .before .before .args .state .at) (drop (c .before .before .before .before .before .before .before .before .before .before .before .args .state .at) (c .before .before .before .before .before .before .before .before .before .before .before .args .part .now)) (simp length-drop (omega arith)), left-first, p) (rw to-end at (c .unknown-element .ensures))
-
-known-element-requires : tie.Need-known-element-requires
-known-element-requires c κs =
-    let q = some-place _ _ (c .before .before .before .before .before .before .before .before .before .before .pre) _ (octet (c .before .before .before .before .before)) (λ e. c .if2 .left (entry (c .before .before) ∙ e)) in
-    rw to-end (rw (entry (c .before .before)) (q .1), simp length-drop (omega arith), rw left-first (c .before .before .before .before .before .iei-of .ensures), simp length-drop (omega arith))
+returns-2 c = rw (c .after .ensures) (rw (c .before .before .came .given .1) at (here (c .before .before .before .before)))
 
 returns-3 : tie.Need-returns-3
-unfolding placeStep
-returns-3 c =
-    let x = getD (c .before .before .before .before .before .before .before .before .before .before .before .args .part .now) (c .before .before .before .before .before .before .before .before .before .before .before .args .state .at) 0 in
-    let q = some-place _ _ (c .before .before .before .before .before .before .before .before .before .before .before .pre) (ieiOf x) (octet (c .before .before .before .before .before .before)) (λ e. c .before .if2 .left (entry (c .before .before .before) ∙ e)) in
-    let p : placeOf (rowsOf (c .before .before .before .before .before .before .before .before .before .before .before .args .table .now)) (ieiOf x) ≡ some (c .before .before .before .wide2 .result) = q .0 ∙ ap some (sym (entry (c .before .before .before))) in
-    rw (step-some (rowsOf (c .before .before .before .before .before .before .before .before .before .before .before .args .table .now)) (c .before .before .before .before .before .before .before .before .before .before .before .args .tlve-start) (c .before .before .before .before .before .before .before .before .before .before .before .args .option) (metOf (c .before .before .before .before .before .before .before .before .before .before .before .args .state)) (c .before .before .before .before .before .before .before .before .before .before .before .args .state .at) (drop (c .before .before .before .before .before .before .before .before .before .before .before .args .state .at) (c .before .before .before .before .before .before .before .before .before .before .before .args .part .now)) (simp length-drop (omega arith)), left-first, p) (rw to-end at (c .known-element .ensures))
+returns-3 c = rw to-end (rw (c .enum-told .given .1) at (here (c .before .before)))
 
 pub element-step-spec : {M : Type 1} → statement M
 element-step-spec =
@@ -78,13 +87,16 @@ element-step-spec =
     returns
     shared-slice-read-x
     iei-of-requires
-    wide-requires
-    element-copy-out-wide
-    wide-requires-2
+    entry-of-requires
     sub-left
     part-left-start
     part-left-end
-    unknown-element-requires
+    came-unknown-requires
+    numbers-at-requires
+    seen-has-requires
+    came-known-requires
+    enum-known-came
+    after-requires
+    enum-told
     returns-2
-    known-element-requires
     returns-3)

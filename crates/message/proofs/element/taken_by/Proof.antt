@@ -1,33 +1,36 @@
 -- `taken_by` is the row's own rule: the least length, then the value rule.
--- The row's numbers are those of the accessors.
+-- The header is that of the form that the row's numbers say.
 use Prim.Native.Nat.{_≤_, _<_}
 use native.Mathlib.Omega.{arith}
 use mathlib.Core.Path.{_≡_, ap, sym, _∙_}
-use Rattle.definitions.specs.Rows.{rowsOf, rowAt, form}
+use Rattle.definitions.specs.Rows.{form}
 use Rattle.definitions.specs.Length.{header}
 use Rattle.definitions.proofs.Lists.{to-end}
+use Rattle.tables.specs.Numbers.{rowBy}
 use Rattle.message.proofs.Frames.{too-short, long-enough}
 use borrow.Author.Needs.{needs}
 use Rattle.message.proofs.element.taken_by.Statement.{statement}
 use Rattle.message.proofs.element.taken_by.Tie as tie
 
-least-at-requires : tie.Need-least-at-requires
-least-at-requires c κs = search needs
-
 returns : tie.Need-returns
-returns c = sym (too-short (rowAt (rowsOf (c .before .before .before .before .args .table .now)) (c .before .before .before .before .args .place)) (c .before .before .before .before .args .element .now) (omega (arith, c .before .least-at .ensures)))
+returns c = let a = c .before .before .before .args in sym (too-short (rowBy (a .row)) (a .element .now) (omega arith))
+
+form-of-requires : tie.Need-form-of-requires
+form-of-requires c κs = search needs
 
 header-requires : tie.Need-header-requires
 header-requires c κs = search needs
 
-kinds-at-requires : tie.Need-kinds-at-requires
-kinds-at-requires c κs = search needs
+-- the octets before the value
+headed : (c : tie.After-header) → c .header .result ≡ header (form (rowBy (c .before .before .before .before .before .args .row)))
+unfolding form
+headed c = c .header .ensures ∙ ap header (c .before .form-of .ensures)
 
 sub-receivable : tie.Need-sub-receivable
-sub-receivable c = search needs
+sub-receivable c = omega (arith, headed c, c .before .before .before .before .before .pre)
 
 part-receivable-start : tie.Need-part-receivable-start
-part-receivable-start c = search needs
+part-receivable-start c = omega (arith, headed c, c .before .before .before .before .before .pre)
 
 part-receivable-end : tie.Need-part-receivable-end
 part-receivable-end c = search needs
@@ -37,20 +40,16 @@ receivable-requires c κs = search needs
 
 returns-2 : tie.Need-returns-2
 returns-2 c =
-    let a = c .before .before .before .before .before .before .before .before .args in
-    let r = rowAt (rowsOf (a .table .now)) (a .place) in
-    let h : c .before .before .before .header .result ≡ header (form r) = c .before .before .before .header .ensures ∙ ap header (c .before .before .before .before .before .before .before .before .pre .0) in
-    let k : c .before .before .kinds-at .result ≡ r .kinds = c .before .before .kinds-at .ensures in
-    rw (long-enough r (a .element .now) (omega (arith, c .before .before .before .before .before .least-at .ensures)), ← h, ← k) (rw to-end at (c .receivable .ensures))
+    let a = c .before .before .before .before .before .before .before .args in
+    rw (long-enough (rowBy (a .row)) (a .element .now) (omega arith), ← headed (c .before .before)) (rw to-end at (c .receivable .ensures))
 
 pub taken-by-spec : {M : Type 1} → statement M
 taken-by-spec =
     tie.close
     (tie.spec
-    least-at-requires
     returns
+    form-of-requires
     header-requires
-    kinds-at-requires
     sub-receivable
     part-receivable-start
     part-receivable-end

@@ -5,7 +5,7 @@ use native.Mathlib.Omega.{arith}
 use mathlib.Core.Path.{_≡_, ap, sym, _∙_}
 use mathlib.Core.List.{List}
 use lib.ListN.{length}
-use Rattle.definitions.specs.Rows.{rowsOf}
+use Rattle.definitions.specs.Rows.{rowsOf, form}
 use Rattle.definitions.specs.Length.{header}
 use Rattle.logs.specs.declared.ie_order.Placed.{Placed}
 use Rattle.message.specs.Fills.{before, rowBy, RowFitsBy, rowEntered}
@@ -16,18 +16,22 @@ use Rattle.message.proofs.fill.enter_row.Tie as tie
 enum-told : tie.Need-enum-told
 enum-told c = search needs
 
-form-at-requires : tie.Need-form-at-requires
-form-at-requires c κs = search needs
+numbers-at-requires : tie.Need-numbers-at-requires
+numbers-at-requires c κs = search needs
+
+form-of-requires : tie.Need-form-of-requires
+form-of-requires c κs = search needs
 
 header-requires : tie.Need-header-requires
 header-requires c κs = search needs
 
 -- the octets before the value, and the row's own bounds
-measured : (c : tie.After-header) → c .header .result ≡ before (rowsOf (c .before .before .before .before .before .before .args .table .now)) (c .before .before .before .before .before .before .args .e .place)
-measured c = c .header .ensures ∙ ap header (c .before .form-at .ensures)
+measured : (c : tie.After-header) → let a = c .before .before .before .before .before .before .before .args in c .header .result ≡ before (rowsOf (a .table .now)) (a .e .place)
+unfolding form
+measured c = let a = c .before .before .before .before .before .before .before .args in let w = c .before .before .before .before .before .before .before .pre .0 in c .header .ensures ∙ ap header (c .before .form-of .ensures ∙ rw (c .before .before .numbers-at .ensures, w .code (a .e .place), w .size (a .e .place)))
 
-fits : (c : tie.After-header) → (3 * c .before .before .before .before .before .before .args .e .place + 3 ≤ length (c .before .before .before .before .before .before .args .rows .now)) × (c .header .result ≤ c .before .before .before .before .before .before .args .e .len) × (c .before .before .before .before .before .before .args .e .start + c .before .before .before .before .before .before .args .e .len < 65536)
-fits c = rw (measured c) (rw (c .before .before .enum-told .given .1) at (c .before .before .before .before .before .before .pre))
+fits : (c : tie.After-header) → let a = c .before .before .before .before .before .before .before .args in (3 * a .e .place + 3 ≤ length (a .rows .now)) × (c .header .result ≤ a .e .len) × (a .e .start + a .e .len < 65536)
+fits c = rw (measured c) (rw (c .before .before .before .enum-told .given .1) at (c .before .before .before .before .before .before .before .pre .1))
 
 mul-set-row : tie.Need-mul-set-row
 mul-set-row c = let f = fits (c .before) in omega arith
@@ -58,7 +62,7 @@ same-length c = search needs
 
 returns : tie.Need-returns
 unfolding rowEntered
-returns c = rw (← measured (c .before .before .before .before)) (c .before .before .set-row .ensures) ∙ ap (rowBy (rowsOf (c .before .before .before .before .before .before .before .before .before .before .args .table .now)) (c .before .before .before .before .before .before .before .before .before .before .args .e .place) (c .before .before .before .before .before .before .before .before .before .before .args .e .start) (c .before .before .before .before .before .before .before .before .before .before .args .e .len) (c .before .before .before .before .before .before .before .before .before .before .args .rows .now)) (sym (c .before .before .before .before .before .before .enum-told .given .1))
+returns c = let a = c .before .before .before .before .before .before .before .before .before .before .before .args in rw (← measured (c .before .before .before .before)) (c .before .before .set-row .ensures) ∙ ap (rowBy (rowsOf (a .table .now)) (a .e .place) (a .e .start) (a .e .len) (a .rows .now)) (sym (c .before .before .before .before .before .before .before .enum-told .given .1))
 
 returns-2 : tie.Need-returns-2
 unfolding rowEntered
@@ -73,7 +77,8 @@ enter-row-spec =
     tie.close
     (tie.spec
     enum-told
-    form-at-requires
+    numbers-at-requires
+    form-of-requires
     header-requires
     mul-set-row
     add-set-row

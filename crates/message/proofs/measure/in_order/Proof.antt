@@ -14,14 +14,14 @@ returns c = rw (not-true (c .before .before .before .args .t .plain) (c .if1 .ta
 
 returns-2 : tie.Need-returns-2
 unfolding inOrder
-returns-2 c = rw (not-false (c .before .before .before .before .before .args .t .plain) (c .before .before .if1 .left), lt-leb (c .before .before .before .before .before .args .t .least) (c .before .before .before .before .before .args .place) (c .if2 .taken))
+returns-2 c = let a = c .before .before .before .before .before .args in rw (not-false (a .t .plain) (c .before .before .if1 .left), lt-leb (a .t .least) (a .place) (c .if2 .taken))
 
-first-iei-requires : tie.Need-first-iei-requires
-first-iei-requires c κs = search needs
+numbers-at-requires : tie.Need-numbers-at-requires
+numbers-at-requires c κs = search needs
 
 returns-3 : tie.Need-returns-3
 unfolding inOrder
-returns-3 c = rw (not-false (c .before .before .before .before .before .before .args .t .plain) (c .before .before .before .if1 .left), le-leb (c .before .before .before .before .before .before .args .t .least) (c .before .before .before .before .before .before .args .place) (c .before .if2 .left), c .first-iei .ensures)
+returns-3 c = let a = c .before .before .before .before .before .before .before .args in rw (not-false (a .t .plain) (c .before .before .before .before .if1 .left), le-leb (a .t .least) (a .place) (c .before .before .if2 .left), c .before .numbers-at .ensures, c .before .before .before .before .before .before .before .pre .first (a .place))
 
 pub in-order-spec : {M : Type 1} → statement M
-in-order-spec = tie.close (tie.spec returns returns-2 first-iei-requires returns-3)
+in-order-spec = tie.close (tie.spec returns returns-2 numbers-at-requires returns-3)
