@@ -19,7 +19,7 @@ use Rattle.definitions.proofs.Steps.{Frames, whole-frames, front-octets, front-
 use Rattle.logs.specs.declared.ie_order.Placed.{Placed}
 use Rattle.tables.specs.Numbers.{numbersAt, rowBy, Whole}
 use Rattle.message.specs.Seen.{setOf, seenOf, includingPlace}
-use Rattle.message.specs.Steps.{placedFor, elementOf, stateOf, stepOf, metOf, Indexed, cameKnown, cameStrange, stateAfter, foundAt}
+use Rattle.message.specs.Steps.{placedFor, elementOf, stateOf, stepOf, metOf, Indexed, fitOf, cameKnown, cameStrange, stateAfter, foundAt}
 use Rattle.message.specs.declared.element.State.{State}
 use Rattle.message.specs.declared.element.Came.{Came}
 use Rattle.message.proofs.Sets.{seen-of}
@@ -34,7 +34,7 @@ first-same f (x ∷ xs) h = front-first (front-octets f x xs)
 known-found : (t : List Row) (option : Bool) (s : State) (left : List ℕ) (k x n : ℕ) → 0 < length left → k < 128
     → foundAt s x (ieiOf (getD left 0 0)) k n (cameKnown (rowAt t k) (ieiOf (getD left 0 0)) option (bit k (setOf (s .seen))) (ltb k (s .highest)) left)
     ≡ stepOf (next (known t option (metOf s) (s .at) left k) (meet k (metOf s)))
-unfolding cameKnown stateAfter includingPlace known meet elementOf stateOf ieiAt
+unfolding fitOf stateAfter includingPlace known meet elementOf stateOf ieiAt
 known-found t option s left k x n h g = rw (ne-eqb k 255 (λ e. omega arith), lt-ltb k 128 g, first-same (form (rowAt t k)) left h)
 
 -- a row by the numbers at its place
@@ -54,9 +54,9 @@ module _ (table : List ℕ) (w : Whole table) (k : ℕ) where
   taken-same none s = refl
   taken-same (some n) s = rw (form-same, w .least k, w .kinds k)
 
-  row-same : (iei : ℕ) (option again behind : Bool) (s : List ℕ) → cameKnown stated iei option again behind s ≡ cameKnown row iei option again behind s
-  unfolding cameKnown
-  row-same iei option again behind s = rw (form-same, taken-same (whole (form row) s) s)
+  row-same : (s : List ℕ) → fitOf stated s ≡ fitOf row s
+  unfolding fitOf
+  row-same s = rw (form-same, taken-same (whole (form row) s) s)
 
 -- ---- without one
 
@@ -127,4 +127,4 @@ module _ (table index : List ℕ) (i : Indexed table index) (start : ℕ) (optio
     came-here c (inr w) =
         let q = some-place table index i iei octet (λ e. w .0 (k-is ∙ e)) in
         let p : placeOf (rowsOf table) iei ≡ some k = q .0 ∙ ap some (sym k-is) in
-        rw (w .1, row-same table (i .whole) k) (rw (first-is, ← iei-is) at (known-found (rowsOf table) option s left k x (length left) (simp length-drop (omega arith)) (omega (arith, q .1, k-is)))) ∙ ap stepOf (step-is (some k) p)
+        rw (w .1, row-same table (i .whole) k left) (rw (first-is, ← iei-is) at (known-found (rowsOf table) option s left k x (length left) (simp length-drop (omega arith)) (omega (arith, q .1, k-is)))) ∙ ap stepOf (step-is (some k) p)

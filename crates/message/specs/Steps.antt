@@ -17,6 +17,7 @@ use Rattle.message.specs.Seen.{setOf, seenOf, includingPlace}
 use Rattle.message.specs.declared.element.State.{State}
 use Rattle.message.specs.declared.element.Element.{Element}
 use Rattle.message.specs.declared.element.Step.{Step}
+use Rattle.message.specs.declared.element.Fit.{Fit}
 use Rattle.message.specs.declared.element.Came.{Came}
 
 -- how an element with an IEI came, by its verdict
@@ -46,10 +47,11 @@ stepOf ended = Step.End
 -- ---- as the code finds a step: how the element came, and the state behind it
 
 -- an element that has a place, by its row
-unfoldable pub cameKnown : Row → ℕ → Bool → Bool → Bool → List ℕ → Came
-cameKnown r iei option again behind s =
-    let n : Option ℕ = whole (form r) s in
-    Came.Is (length (octetsOf n s)) (placedFor iei (judged option again behind (taken r n s)))
+unfoldable pub fitOf : Row → List ℕ → Fit
+fitOf r s = let n : Option ℕ = whole (form r) s in record { len = length (octetsOf n s); taken = taken r n s }
+
+abbrev pub cameKnown : Row → ℕ → Bool → Bool → Bool → List ℕ → Came
+cameKnown r iei option again behind s = Came.Is (fitOf r s .len) (placedFor iei (judged option again behind (fitOf r s .taken)))
 
 -- an element without one, by its first octet and its length
 abbrev pub cameStrange : ℕ → List ℕ → Option ℕ → Came

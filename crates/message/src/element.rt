@@ -25,7 +25,7 @@ ghost use Rattle.definitions.specs.Elements.{takenBy, judged, step};
 ghost use Rattle.logs.specs.Answers.{lengthOf};
 ghost use Rattle.tables.specs.Forms.{formAs};
 ghost use Rattle.tables.specs.Numbers.{rowBy};
-ghost use Rattle.message.specs.Steps.{placedFor, cameKnown, cameStrange, stateAfter, stepOf, metOf, Indexed};
+ghost use Rattle.message.specs.Steps.{placedFor, fitOf, cameKnown, cameStrange, stateAfter, stepOf, metOf, Indexed};
 
 // No place: an IEI that no row lists.
 pub const NO_PLACE: usize = 255;
@@ -52,6 +52,12 @@ pub enum Step {
     Next(Element, State),
     Cut(usize, u8, usize),
     End,
+}
+
+// How many octets an element has by its row, and whether the row takes it.
+pub struct Fit {
+    pub len: usize,
+    pub taken: bool,
 }
 
 // How an element came: so many octets, by a verdict; or an unknown element that is cut short and must be understood.
@@ -168,7 +174,23 @@ fn higher(a: usize, b: usize) -> usize
     a
 }
 
-// An element that has a place, from its first octet on, by its row; cut short, it takes the rest.
+// By its row, an element from its first octet on: cut short, it takes the rest.
+fn fit_of(left: &[u8], row: Numbers) -> Fit
+    ensures { λ r. ⌜ r ≡ fitOf (rowBy row) (now (left .entry)) ⌝ }
+{
+    match frame(form_of(row.code, row.size), left) {
+        Length::Octets(n) => Fit {
+            len: n,
+            taken: taken_by(row, &left[..n]),
+        },
+        Length::CutShort => Fit {
+            len: left.len(),
+            taken: false,
+        },
+    }
+}
+
+// An element that has a place, from its first octet on, by its row.
 pub(crate) fn came_known(
     left: &[u8],
     row: Numbers,
@@ -179,13 +201,8 @@ pub(crate) fn came_known(
 ) -> Came
     ensures { λ r. ⌜ r ≡ cameKnown (rowBy row) iei option again behind (now (left .entry)) ⌝ }
 {
-    match frame(form_of(row.code, row.size), left) {
-        Length::Octets(n) => {
-            let taken = taken_by(row, &left[..n]);
-            Came::Is(n, judge(option, again, behind, taken, iei))
-        }
-        Length::CutShort => Came::Is(left.len(), judge(option, again, behind, false, iei)),
-    }
+    let fit = fit_of(left, row);
+    Came::Is(fit.len, judge(option, again, behind, fit.taken, iei))
 }
 
 // An element without a place, from its first octet on: as long as the unknown rule says; cut short, it is refused if it must be
