@@ -15,7 +15,7 @@ use Rattle.definitions.specs.Elements.{Verdict, accepted, unknown, malformed, r
 use Rattle.definitions.proofs.RowLaws.{listed}
 use Rattle.definitions.proofs.Steps.{Stands, strange, placed, Frames, whole-frames}
 
-judged-accepted : (option again behind ok : Bool) → isAccepted (judged option again behind ok) ≡ true → (again ≡ false) × (ok ≡ true)
+pub judged-accepted : (option again behind ok : Bool) → isAccepted (judged option again behind ok) ≡ true → (again ≡ false) × (ok ≡ true)
 unfolding judged isAccepted
 judged-accepted option true behind ok e = absurd (false≢true e)
 judged-accepted true false true true e = (refl, refl)

@@ -54,7 +54,7 @@ module _ (table : List ℕ) (w : Whole table) (k : ℕ) where
   taken-same none s = refl
   taken-same (some n) s = rw (form-same, w .least k, w .kinds k)
 
-  row-same : (s : List ℕ) → fitOf stated s ≡ fitOf row s
+  pub row-same : (s : List ℕ) → fitOf stated s ≡ fitOf row s
   unfolding fitOf
   row-same s = rw (form-same, taken-same (whole (form row) s) s)
 

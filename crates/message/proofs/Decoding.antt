@@ -48,6 +48,7 @@ refused e q =
 pub record Needs (t : List Row) (p : Parted) (k all : ℕ) (plain : Bool) : Type 0 where
   pub decodes : p ≡ elements (elementsOf p)
   pub kept : k ≡ length (keptOf (elementsOf p))
+  pub plain-is : plain ≡ plainFrom t 0 (elementsOf p)
   pub order : pick plain 0 all ≡ length (orderOf t (elementsOf p))
   pub notes : notesOf plain (elementsOf p) ≡ orderOf t (elementsOf p)
 
@@ -58,7 +59,7 @@ needed t (elements es) {k = k} {all = all} {plain = plain} e =
     let a : k ≡ 0 + length (keptOf es) = cc in
     let b : all ≡ 0 + length (entriesOf es) = cc in
     let c : plain ≡ plainFrom t 0 es = cc in
-    record { decodes = refl; kept = omega arith; order = rw c (lengths (plainFrom t 0 es) b); notes = rw c (same (plainFrom t 0 es)) }
+    record { decodes = refl; kept = omega arith; plain-is = c; order = rw c (lengths (plainFrom t 0 es) b); notes = rw c (same (plainFrom t 0 es)) }
   where
     lengths : (v : Bool) → all ≡ 0 + length (entriesOf es) → pick v 0 all ≡ length (pick v [] (entriesOf es))
     lengths true b = refl
@@ -122,6 +123,7 @@ module _ (table : List ℕ) (start : ℕ) (option : Bool) (part rows kept order 
                   passes = passes;
                   short = short;
                   decodes = n .decodes;
+                  plain-is = n .plain-is;
                   rows-room = room;
                   kept-room = omega (arith, n .kept);
                   order-room = omega (arith, n .order, ap length (n .notes));

@@ -8,6 +8,7 @@ pub mod Tallies
 pub mod Counting
 pub mod Accepted
 pub mod Filling
+pub mod Lining
 pub mod Entered
 pub mod Decoding
 pub mod Showing

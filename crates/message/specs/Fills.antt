@@ -9,7 +9,7 @@ use mathlib.Core.Option.{none}
 use Rattle.definitions.specs.Rows.{Row, rowsOf, rowAt, form, firstBad}
 use Rattle.definitions.specs.Elements.{Element as DefElement, elements, elementsOf, parted}
 use Rattle.definitions.specs.Length.{header}
-use Rattle.definitions.specs.Logs.{keptEntry, orderEntry, keptOf, entriesOf}
+use Rattle.definitions.specs.Logs.{keptEntry, orderEntry, keptOf, entriesOf, plainFrom}
 use Rattle.definitions.specs.Reading.{placeRows}
 use Rattle.logs.specs.Order.{placedAs}
 use Rattle.logs.specs.declared.ie_order.Placed.{Placed}
@@ -69,12 +69,13 @@ abbrev pub notesOf : Bool → List DefElement → List ℕ
 notesOf true es = []
 notesOf false es = entriesOf es
 
--- a part that decodes, under a table that passes and its index, with room for what it needs
+-- a part that decodes, under a table that passes and its index, with room for what it needs; plain where the table says it all
 pub record Ready (table index : List ℕ) (start : ℕ) (option plain : Bool) (part rows kept order : List ℕ) : Type 0 where
   pub indexed : Indexed table index
   pub passes : firstBad (rowsOf table) ≡ none
   pub short : length part ≤ 65535
   pub decodes : parted (rowsOf table) start option part ≡ elements (elementsOf (parted (rowsOf table) start option part))
+  pub plain-is : plain ≡ plainFrom (rowsOf table) 0 (elementsOf (parted (rowsOf table) start option part))
   pub rows-room : 3 * length (rowsOf table) ≤ length rows
   pub kept-room : length (keptOf (elementsOf (parted (rowsOf table) start option part))) ≤ length kept
   pub order-room : length (notesOf plain (elementsOf (parted (rowsOf table) start option part))) ≤ length order

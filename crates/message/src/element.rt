@@ -99,7 +99,7 @@ pub(crate) fn header(form: Form) -> usize
 }
 
 // How long an element of a form is.
-fn frame(form: Form, octets: &[u8]) -> Length
+pub(crate) fn frame(form: Form, octets: &[u8]) -> Length
     ensures { λ r. ⌜ r ≡ lengthOf (whole (formAs form) (now (octets .entry))) ⌝ }
 {
     match form {

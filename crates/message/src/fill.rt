@@ -7,6 +7,7 @@ use crate::element::after;
 use crate::element::came_known;
 use crate::element::came_unknown;
 use crate::element::entry_of;
+use crate::element::frame;
 use crate::element::header;
 use crate::element::iei_of;
 use crate::seen::Seen;
@@ -14,6 +15,7 @@ use crate::seen::seen_has;
 use logs::ie_order::Placed;
 use logs::ie_order::entry_len;
 use logs::ie_order::put_placed;
+use logs::length::Length;
 use logs::unknown_ies::count_len;
 use logs::unknown_ies::put_raw;
 use octets::part;
@@ -23,13 +25,14 @@ use tables::rows::places;
 ghost use mathlib.Core.Path.{_≡_};
 ghost use Prim.Native.Nat.{_+_, _*_, _≤_, _<_};
 ghost use lib.ListN.{length, replicate};
+ghost use mathlib.Core.Bool.{true};
 ghost use mathlib.Core.List.{[], _∷_};
 ghost use Rattle.definitions.specs.Basic.{over, overAt};
 ghost use Rattle.definitions.specs.Rows.{rowsOf};
 ghost use Rattle.definitions.specs.Logs.{keptEntry};
 ghost use Rattle.definitions.specs.Elements.{elementsOf, parted};
 ghost use Rattle.tables.specs.Numbers.{Whole};
-ghost use Rattle.message.specs.Fills.{RowFits, rowEntered, keptOfFound, noteBy, Ready, Filled, Written};
+ghost use Rattle.message.specs.Fills.{RowFits, rowEntered, keptOfFound, noteBy, enteredAll, Ready, Filled, Written};
 
 // No number in the first n.
 fn clear_rows(rows: &mut [u32], n: usize)
@@ -170,6 +173,37 @@ fn fill_elements(
     }
 }
 
+// Every element of a part of which the table says all, into the rows: each has a place and is accepted, so that its form alone
+// says how long it is. The start number and the option are those by which the part was measured.
+fn fill_plain(
+    octets: &[u8],
+    table: &[u32],
+    index: &[u8; 256],
+    tlve_start: u8,
+    option: bool,
+    rows: &mut [u32],
+)
+    requires { ⌜ Ready (now table) (now index) «tlve_start» option true (now octets) (now rows) [] [] ⌝ }
+    ensures { λ r. ⌜ now (rows .exit) ≡ enteredAll (rowsOf (now (table .entry))) (elementsOf (parted (rowsOf (now (table .entry))) «tlve_start» option (now (octets .entry)))) (now (rows .entry)) ⌝ }
+{
+    let mut at = 0;
+    while at < octets.len() {
+        let place = entry_of(index, iei_of(octets[at]));
+        let row = numbers_at(table, place);
+        let form = form_of(row.code, row.size);
+        match frame(form, &octets[at..]) {
+            Length::Octets(n) => {
+                let h = header(form);
+                set_row(rows, 3 * place, (at + h) as u32, (n - h) as u32);
+                at += n;
+            }
+            Length::CutShort => {
+                return;
+            }
+        }
+    }
+}
+
 // All that reading writes: the rows of every place, and both logs.
 pub(crate) fn fill(
     octets: &[u8],
@@ -186,6 +220,10 @@ pub(crate) fn fill(
     ensures { λ r. ⌜ Written (rowsOf (now (table .entry))) plain (elementsOf (parted (rowsOf (now (table .entry))) «tlve_start» option (now (octets .entry)))) (now (rows .entry)) (now (kept .entry)) (now (order .entry)) (now (rows .exit)) (now (kept .exit)) (now (order .exit)) ⌝ }
 {
     clear_rows(rows, 3 * places(table));
+    if plain {
+        fill_plain(octets, table, index, tlve_start, option, rows);
+        return;
+    }
     fill_elements(
         octets,
         table,
