@@ -7,14 +7,15 @@ use mathlib.Core.List.{List, [], _∷_, _++_}
 use mathlib.Core.Bool.{Bool, true, false, _&&_, _||_, not, false≢true}
 use mathlib.Core.Option.{Option, none, some}
 use borrow.Author.Tests.{lt-ltb, le-ltb, ltb-true, ltb-false, leb-true}
-use lib.ListN.{length, getD, drop}
-use lib.Seq.{getD-drop}
+use lib.ListN.{length, getD, drop, length-take}
+use lib.Seq.{getD-drop, getD-take}
 use lib.Dec.{ltb, leb, eqb, lit<}
 use Rattle.definitions.specs.Basic.{pick}
 use Rattle.definitions.specs.Rows.{Row, rowOf, rowsOf, rowAt, ieis, firstIei, allGood, fresh, goodRow, mostPlaces, firstBadFrom, firstBad, noRow}
 use Rattle.definitions.proofs.RowLaws.{both}
 use Rattle.definitions.proofs.TableLaws.{past, row-at, iei-at, count-is, row-count}
-use Rattle.tables.specs.Numbers.{numbersOf, numbersAt, Whole}
+use Rattle.tables.specs.Marks.{inRange}
+use Rattle.tables.specs.Numbers.{numbersOf, noNumbers, numbersAt, rowBy, Whole}
 
 -- a good row lists an IEI and has a kind
 record Good (r : Row) : Type 0 where
@@ -112,3 +113,33 @@ module _ (table : List ℕ) (passes : firstBad (rowsOf table) ≡ none) where
         least = λ k. same k .least;
         kinds = λ k. same k .kinds;
       }
+
+-- ---- of any table
+
+-- the ranges of a row are those of its numbers taken at once: a row that is not whole has no kind, and fails either way
+kindless : (r : Row) → r .kinds ≡ 0 → inRange r ≡ false
+unfolding inRange
+kindless r e = rw e (by (leb 1 (r .count)) (leb (r .count) 4) (leb (r .code) 3) (not (eqb (r .code) 1) || leb (r .size) 255) (leb (r .least) 65538))
+  where
+    by : (a b c d f : Bool) → (a && (b && (c && (d && (f && false))))) ≡ false
+    by false b c d f = refl
+    by true false c d f = refl
+    by true true false d f = refl
+    by true true true false f = refl
+    by true true true true false = refl
+    by true true true true true = refl
+
+pub range-by : (table : List ℕ) (k : ℕ) → inRange (rowBy (numbersAt table k)) ≡ inRange (rowAt (rowsOf table) k)
+unfolding numbersAt inRange rowOf
+range-by table k = by (ltb k (length table / 9)) refl
+  where
+    by : (b : Bool) → ltb k (length table / 9) ≡ b → inRange (rowBy (pick b (numbersOf (drop (9 * k) table)) noNumbers)) ≡ inRange (rowAt (rowsOf table) k)
+    by true e = rw (row-at table k)
+    by false e =
+        let h = ltb-false k (length table / 9) e in
+        sym (kindless (rowAt (rowsOf table) k) (ap (λ (r : Row). r .kinds) (row-at table k) ∙ past (9 * k) table 8 (omega arith)))
+
+-- an IEI that a row lists is one of its four numbers
+pub slot-listed : (r : Row) (j : ℕ) → j < length (ieis r) → getD (r .slots) j 0 ≡ getD (ieis r) j 0
+unfolding ieis
+slot-listed r j h = let l = length-take (r .count) (r .slots) in sym (getD-take (r .count) (r .slots) j 0 (omega arith))

@@ -1,4 +1,4 @@
--- The numbers of a row that reading asks for, taken at once where the table has the whole row.
+-- The numbers of a row, with its first IEI alone, taken at once where the table has the whole row.
 use Prim.Native.Nat.{ℕ, _*_, _/_}
 use mathlib.Core.Path.{_≡_}
 use mathlib.Core.List.{List, [], _∷_}
@@ -10,17 +10,17 @@ use Rattle.tables.specs.declared.rows.Numbers.{Numbers}
 
 -- those at the front of a list
 abbrev pub numbersOf : List ℕ → Numbers
-numbersOf s = record { first = getD s 1 0; code = getD s 5 0; size = getD s 6 0; least = getD s 7 0; kinds = getD s 8 0 }
+numbersOf s = record { count = getD s 0 0; first = getD s 1 0; code = getD s 5 0; size = getD s 6 0; least = getD s 7 0; kinds = getD s 8 0 }
 
 abbrev pub noNumbers : Numbers
-noNumbers = record { first = 0; code = 0; size = 0; least = 0; kinds = 0 }
+noNumbers = record { count = 0; first = 0; code = 0; size = 0; least = 0; kinds = 0 }
 
 unfoldable pub numbersAt : List ℕ → ℕ → Numbers
 numbersAt table k = pick (ltb k (length table / width)) (numbersOf (drop (width * k) table)) noNumbers
 
 -- a row with these numbers
 abbrev pub rowBy : Numbers → Row
-rowBy n = record { count = 1; slots = n .first ∷ []; code = n .code; size = n .size; least = n .least; kinds = n .kinds }
+rowBy n = record { count = n .count; slots = n .first ∷ []; code = n .code; size = n .size; least = n .least; kinds = n .kinds }
 
 -- every row's numbers are those of the definitions
 pub record Whole (table : List ℕ) : Type 0 where

@@ -2,17 +2,13 @@
 use crate::marks::NO_PLACE;
 use crate::marks::both;
 use crate::marks::enter_row;
-use crate::rows::code_at;
-use crate::rows::count_at;
-use crate::rows::kinds_at;
-use crate::rows::least_at;
 use crate::rows::mandatory_code_at;
 use crate::rows::mandatory_kinds_at;
 use crate::rows::mandatory_least_at;
 use crate::rows::mandatory_rows;
 use crate::rows::mandatory_size_at;
+use crate::rows::numbers_at;
 use crate::rows::places;
-use crate::rows::size_at;
 ghost use mathlib.Core.Path.{_≡_};
 ghost use mathlib.Core.Bool.{_&&_, _||_, not};
 ghost use mathlib.Core.Option.{none};
@@ -51,28 +47,26 @@ fn size_fits(code: u32, size: usize) -> bool
 fn in_range(table: &[u32], place: usize) -> bool
     ensures { λ r. ⌜ r ≡ inRange (rowAt (rowsOf (now (table .entry))) place) ⌝ }
 {
-    let count = count_at(table, place);
-    if count < 1 {
+    let row = numbers_at(table, place);
+    if row.count < 1 {
         return false;
     }
-    if count > 4 {
+    if row.count > 4 {
         return false;
     }
-    let code = code_at(table, place);
-    if code > 3 {
+    if row.code > 3 {
         return false;
     }
-    if !size_fits(code, size_at(table, place)) {
+    if !size_fits(row.code, row.size) {
         return false;
     }
-    if least_at(table, place) > 65_538 {
+    if row.least > 65_538 {
         return false;
     }
-    let kinds = kinds_at(table, place);
-    if kinds < 1 {
+    if row.kinds < 1 {
         return false;
     }
-    kinds <= 255
+    row.kinds <= 255
 }
 
 // A row, with its IEIs entered.

@@ -1,7 +1,7 @@
 // Entering the IEIs of a row in an index, for the check and for the index itself: each entry goes to the first row that lists it.
 use crate::rows::code_at;
-use crate::rows::iei_at;
 use crate::rows::iei_count;
+use crate::rows::slot_at;
 ghost use mathlib.Core.Path.{_≡_};
 ghost use mathlib.Core.Bool.{_&&_};
 ghost use lib.Dec.{eqb};
@@ -73,7 +73,7 @@ pub fn enter_row(table: &[u32], place: usize, index: &mut [u8]) -> bool
     let mut good = true;
     let mut j = 0;
     while j < n {
-        let iei = iei_at(table, place, j);
+        let iei = slot_at(table, place, j);
         good = both(good, enter_iei(index, half, iei, mark));
         j += 1;
     }

@@ -16,8 +16,10 @@ pub enum Form {
     TlvE,
 }
 
-// What reading asks of a row: its first IEI, the code and the size of its form, the least whole length, the set of kinds.
+// The numbers of a row, with its first IEI alone: how many IEIs, that one, the code and the size of its form, the least whole
+// length, the set of kinds.
 pub struct Numbers {
+    pub count: u32,
     pub first: u32,
     pub code: u32,
     pub size: usize,
@@ -104,6 +106,7 @@ pub fn numbers_at(table: &[u32], place: usize) -> Numbers
 {
     if place >= table.len() / 9 {
         return Numbers {
+            count: 0,
             first: 0,
             code: 0,
             size: 0,
@@ -113,6 +116,7 @@ pub fn numbers_at(table: &[u32], place: usize) -> Numbers
     }
     let start = 9 * place;
     Numbers {
+        count: table[start],
         first: table[start + 1],
         code: table[start + 5],
         size: wide(table[start + 6]),
@@ -158,6 +162,16 @@ pub fn iei_count(table: &[u32], place: usize) -> usize
     most - 1
 }
 
+// One of the four numbers of a row for its IEIs, listed or not; 0 past the fourth.
+pub fn slot_at(table: &[u32], place: usize, number: usize) -> u32
+    ensures { λ r. ⌜ r ≡ getD (rowAt (rowsOf (now (table .entry))) place .slots) number 0 ⌝ }
+{
+    if number >= 4 {
+        return 0;
+    }
+    number_at(table, place, 1 + number)
+}
+
 // An IEI of a row, at a number from 0; 0 past the last.
 pub fn iei_at(table: &[u32], place: usize, number: usize) -> u32
     ensures { λ r. ⌜ r ≡ getD (ieis (rowAt (rowsOf (now (table .entry))) place)) number 0 ⌝ }
@@ -165,7 +179,7 @@ pub fn iei_at(table: &[u32], place: usize, number: usize) -> u32
     if number >= iei_count(table, place) {
         return 0;
     }
-    number_at(table, place, 1 + number)
+    slot_at(table, place, number)
 }
 
 // The IEI for added elements.

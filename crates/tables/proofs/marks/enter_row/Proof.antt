@@ -8,6 +8,7 @@ use mathlib.Core.Bool.{Bool, _&&_}
 use lib.Dec.{eqb}
 use Rattle.definitions.specs.Rows.{rowsOf, rowAt, ieis, goodIei}
 use Rattle.tables.specs.Marks.{free, enter, enterAll, enters}
+use Rattle.tables.proofs.WholeRows.{slot-listed}
 use Rattle.tables.proofs.Steps.{Entering, entering, entered-one, entered-all}
 use borrow.Author.Needs.{needs}
 use Rattle.tables.proofs.marks.enter_row.Statement.{statement}
@@ -31,8 +32,8 @@ iei-count-requires c κs = search needs
 loop-holds : tie.Need-loop-holds Inv-loop μ-loop
 loop-holds c = entering _ _ _ _
 
-iei-at-requires : tie.Need-iei-at-requires Inv-loop μ-loop
-iei-at-requires c κs = search needs
+slot-at-requires : tie.Need-slot-at-requires Inv-loop μ-loop
+slot-at-requires c κs = search needs
 
 enter-iei-requires : tie.Need-enter-iei-requires Inv-loop μ-loop
 enter-iei-requires c κs = search needs
@@ -51,7 +52,7 @@ loop-again c =
     let a = c .before .before .before .before .before .before .before .before .before .before .before .before .before .args in
     let l = c .before .before .before .before .before .before .before .loop in
     let half = eqb (c .before .before .before .before .before .before .before .before .before .before .code-at .result) 0 in
-    let e = c .before .before .before .before .before .iei-at .ensures in
+    let e = c .before .before .before .before .before .slot-at .ensures ∙ slot-listed (rowAt (rowsOf (a .table .now)) (a .place)) (l .j) (omega arith) in
     entered-one _ _ _ _ _ _ _ _ _ (l .inv) (omega arith)
     (c .both .ensures ∙ ap (λ (b : Bool). l .good && b) (c .before .before .before .enter-iei .ensures .0 ∙ ap (λ (x : ℕ). goodIei half x && free (l .index) x) e))
     (c .before .before .before .enter-iei .ensures .1 ∙ ap (λ (x : ℕ). enter (c .before .before .before .before .before .before .before .before .before .mark-of .result) x (l .index)) e)
@@ -77,7 +78,7 @@ enter-row-spec =
     mark-of-requires
     iei-count-requires
     loop-holds
-    iei-at-requires
+    slot-at-requires
     enter-iei-requires
     both-requires
     add-j

@@ -1,6 +1,7 @@
 -- `numbers_at` takes the numbers of a row that the table has whole, and none of any other.
 -- A number of what is left from the row's start is the table's own.
-use Prim.Native.Nat.{_*_, _/_}
+use Prim.Native.Nat.{_*_, _+_, _/_}
+use mathlib.Core.Path.{_≡_}
 use native.Mathlib.Omega.{arith}
 use borrow.Author.Tests.{lt-ltb, le-ltb}
 use lib.ListN.{length}
@@ -17,23 +18,29 @@ returns c = let a = c .before .before .args in rw (le-ltb (a .place) (length (a 
 mul-start : tie.Need-mul-start
 mul-start c = search needs
 
-add-t4 : tie.Need-add-t4
-add-t4 c = search needs
-
-mul-t5 : tie.Need-mul-t5
-mul-t5 c = search needs
+mul-t4 : tie.Need-mul-t4
+mul-t4 c = search needs
 
 shared-slice-read-t8 : tie.Need-shared-slice-read-t8
 shared-slice-read-t8 c = search needs
 
-add-t9 : tie.Need-add-t9
-add-t9 c = search needs
+add-t5 : tie.Need-add-t5
+add-t5 c = search needs
 
-mul-t10 : tie.Need-mul-t10
-mul-t10 c = search needs
+mul-t9 : tie.Need-mul-t9
+mul-t9 c = search needs
 
-shared-slice-read-t12 : tie.Need-shared-slice-read-t12
-shared-slice-read-t12 c = search needs
+shared-slice-read-t11 : tie.Need-shared-slice-read-t11
+shared-slice-read-t11 c = search needs
+
+add-t12 : tie.Need-add-t12
+add-t12 c = search needs
+
+mul-t13 : tie.Need-mul-t13
+mul-t13 c = search needs
+
+shared-slice-read-t15 : tie.Need-shared-slice-read-t15
+shared-slice-read-t15 c = search needs
 
 add-wide : tie.Need-add-wide
 add-wide c = search needs
@@ -59,20 +66,21 @@ shared-slice-read-wide-2 c = search needs
 wide-requires-2 : tie.Need-wide-requires-2
 wide-requires-2 c κs = search needs
 
-add-t23 : tie.Need-add-t23
-add-t23 c = search needs
+add-t26 : tie.Need-add-t26
+add-t26 c = search needs
 
-mul-t24 : tie.Need-mul-t24
-mul-t24 c = search needs
+mul-t27 : tie.Need-mul-t27
+mul-t27 c = search needs
 
-shared-slice-read-t26 : tie.Need-shared-slice-read-t26
-shared-slice-read-t26 c = search needs
+shared-slice-read-t29 : tie.Need-shared-slice-read-t29
+shared-slice-read-t29 c = search needs
 
 returns-2 : tie.Need-returns-2
 unfolding numbersAt
 returns-2 c =
-    let a = c .before .before .before .before .before .before .before .before .before .args in
-    rw (lt-ltb (a .place) (length (a .table .now) / 9) (omega arith), getD-drop (9 * a .place) (a .table .now) 1 0, getD-drop (9 * a .place) (a .table .now) 5 0, getD-drop (9 * a .place) (a .table .now) 6 0, getD-drop (9 * a .place) (a .table .now) 7 0, getD-drop (9 * a .place) (a .table .now) 8 0, c .before .before .before .wide .ensures, c .before .wide2 .ensures)
+    let a = c .before .before .before .before .before .before .before .before .before .before .args in
+    let z : 9 * a .place + 0 ≡ 9 * a .place = omega arith in
+    rw (lt-ltb (a .place) (length (a .table .now) / 9) (omega arith), getD-drop (9 * a .place) (a .table .now) 0 0, z, getD-drop (9 * a .place) (a .table .now) 1 0, getD-drop (9 * a .place) (a .table .now) 5 0, getD-drop (9 * a .place) (a .table .now) 6 0, getD-drop (9 * a .place) (a .table .now) 7 0, getD-drop (9 * a .place) (a .table .now) 8 0, c .before .before .before .wide .ensures, c .before .wide2 .ensures)
 
 pub numbers-at-spec : {M : Type 1} → statement M
 numbers-at-spec =
@@ -80,12 +88,14 @@ numbers-at-spec =
     (tie.spec
     returns
     mul-start
-    add-t4
-    mul-t5
+    mul-t4
     shared-slice-read-t8
-    add-t9
-    mul-t10
-    shared-slice-read-t12
+    add-t5
+    mul-t9
+    shared-slice-read-t11
+    add-t12
+    mul-t13
+    shared-slice-read-t15
     add-wide
     mul-wide
     shared-slice-read-wide
@@ -94,7 +104,7 @@ numbers-at-spec =
     mul-wide-2
     shared-slice-read-wide-2
     wide-requires-2
-    add-t23
-    mul-t24
-    shared-slice-read-t26
+    add-t26
+    mul-t27
+    shared-slice-read-t29
     returns-2)
