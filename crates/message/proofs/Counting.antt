@@ -13,16 +13,13 @@ use Rattle.definitions.specs.Elements.{Element as DefElement, Met, Parted, elem
 use Rattle.definitions.proofs.Steps.{Stands, strange, placed}
 use Rattle.message.specs.Steps.{elementOf, Indexed}
 use Rattle.message.specs.Measures.{tallied, measuredFrom, noTally}
+use Rattle.message.specs.Nexts.{startState}
 use Rattle.message.specs.declared.element.State.{State}
 use Rattle.message.specs.declared.element.Element.{Element}
 use Rattle.message.specs.declared.measure.Tally.{Tally}
 use Rattle.message.specs.declared.measure.Measured.{Measured}
 use Rattle.message.proofs.Nexts.{from, Nexts}
 use Rattle.message.proofs.Tallies.{has-place, tally-before, tally-room, Room}
-
--- where reading begins
-abbrev pub startState : State
-startState = record { at = 0; seen = record { low = 0; high = 0 }; highest = 0 }
 
 pub from-start : (t : List Row) (start : ℕ) (option : Bool) (part : List ℕ) → from t start option part startState ≡ parted t start option part
 unfolding parted

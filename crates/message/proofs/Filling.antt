@@ -18,10 +18,11 @@ use Rattle.logs.specs.Order.{placedAs}
 use Rattle.logs.specs.declared.ie_order.Placed.{Placed}
 use Rattle.message.specs.Steps.{placedFor, elementOf, metOf}
 use Rattle.message.specs.Fills.{rowEntered, rowBy, RowFits, RowFitsBy, keptOfFound, entryBy, noteBy, enteredAll, notesOf, Ready, Filled}
+use Rattle.message.specs.Nexts.{startState}
 use Rattle.message.specs.declared.element.State.{State}
 use Rattle.message.specs.declared.element.Element.{Element}
 use Rattle.message.proofs.Nexts.{from, Nexts}
-use Rattle.message.proofs.Counting.{startState, from-start}
+use Rattle.message.proofs.Counting.{from-start}
 use Rattle.message.proofs.Accepted.{Accepted, accepted-one}
 
 -- ---- an element's entries, and the rest
