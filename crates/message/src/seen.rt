@@ -29,14 +29,6 @@ fn with(set: u64, k: usize) -> u64
     set + (1 << k)
 }
 
-impl Seen {
-    pub fn none() -> Self
-        ensures { λ r. ⌜ setOf r ≡ 0 ⌝ }
-    {
-        Seen { low: 0, high: 0 }
-    }
-}
-
 // Whether a place was met.
 pub fn seen_has(seen: Seen, place: usize) -> bool
     ensures { λ r. ⌜ r ≡ bit place (setOf seen) ⌝ }
