@@ -1,11 +1,10 @@
 //! Drives our side and the Rust on the same inputs and compares numbers, values and all lent memory.
 
 use std::process::ExitCode;
-use std::rc::Rc;
 use std::time::Instant;
 
 use compare::driver::Driver;
-use compare::rows::numbered;
+use compare::rows::numbered_or_exit;
 use compare::sides::{Side, ours};
 
 const USAGE: &str = "usage: compare [--times N] [--seed N] [--model]
@@ -42,13 +41,7 @@ fn main() -> ExitCode {
         eprintln!("{USAGE}");
         return ExitCode::from(2);
     };
-    let tables = match numbered() {
-        Ok(tables) => Rc::new(tables),
-        Err(message) => {
-            eprintln!("{message}");
-            return ExitCode::from(2);
-        }
-    };
+    let tables = numbered_or_exit();
     let mut driver = Driver::new(ours(tables.clone(), model), tables, seed, times);
     println!("{} against {}, seed {seed}, times {times}", driver.ours.name(), driver.right.name());
     let begun = Instant::now();

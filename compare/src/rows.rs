@@ -2,6 +2,8 @@
 //! form, the least whole length and the set. Table P and the six real tables by their numbers.
 
 use std::path::PathBuf;
+use std::process::exit;
+use std::rc::Rc;
 use std::{env, fs};
 
 /// How many numbers a row of an optional table has, a row of a mandatory one, and the row of a place.
@@ -66,7 +68,7 @@ fn table_p() -> Vec<u32> {
 }
 
 /// The optional tables by number: 0 is P, 1 to 6 are the real ones, read from the list of the edition 16.8.0.
-pub fn numbered() -> Result<Vec<Vec<u32>>, String> {
+fn numbered() -> Result<Vec<Vec<u32>>, String> {
     let folder = match env::var("NAS_TABLES") {
         Ok(path) => PathBuf::from(path),
         Err(_) => PathBuf::from(env!("CARGO_MANIFEST_DIR")).join("../../shared/tables"),
@@ -90,6 +92,17 @@ pub fn numbered() -> Result<Vec<Vec<u32>>, String> {
         }
     }
     Ok(tables)
+}
+
+/// The same for a program, shared; where they cannot be read the program ends with the reason.
+pub fn numbered_or_exit() -> Rc<Vec<Vec<u32>>> {
+    match numbered() {
+        Ok(tables) => Rc::new(tables),
+        Err(message) => {
+            eprintln!("{message}");
+            exit(2);
+        }
+    }
 }
 
 /// The numbers of an optional row of the list: message, part, row, IEI, name, form, least, greatest, set.

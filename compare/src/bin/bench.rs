@@ -2,13 +2,12 @@
 
 use std::hint::black_box;
 use std::process::ExitCode;
-use std::rc::Rc;
 use std::time::{Duration, Instant};
 
 use compare::calls::Call;
 use compare::judge::{Model, Room};
 use compare::oracle::{self, Logs, Table};
-use compare::rows::{Form, PLACE, Row, START, numbered};
+use compare::rows::{Form, PLACE, Row, START, numbered_or_exit};
 use compare::sides::{ByRust, Judged, Lent, Side, ours};
 
 /// An input: a part and the number of the table that it is read by.
@@ -37,13 +36,7 @@ const ROUND: Duration = Duration::from_millis(12);
 const ROUNDS: usize = 6;
 
 fn main() -> ExitCode {
-    let tables = match numbered() {
-        Ok(tables) => Rc::new(tables),
-        Err(message) => {
-            eprintln!("{message}");
-            return ExitCode::from(2);
-        }
-    };
+    let tables = numbered_or_exit();
     let model = std::env::args().any(|argument| argument == "--model");
     let ours = ours(tables.clone(), model);
     let right = Judged::<ByRust>::new(tables.clone());

@@ -12,7 +12,7 @@ use compare::gen_parts::{self, Size};
 use compare::gen_tables;
 use compare::judge::{Model, Room, first_bad};
 use compare::random::Random;
-use compare::rows::{PLACE, START, WIDTH, numbered};
+use compare::rows::{PLACE, START, WIDTH, numbered_or_exit};
 use compare::sides::{ByRust, Judged};
 
 /// How many cases the list has, and how many of one kind at most.
@@ -39,13 +39,7 @@ struct Recorder {
 type Kind = (u8, bool, u32, u64, BTreeSet<String>, [i8; 3]);
 
 fn main() -> ExitCode {
-    let tables = match numbered() {
-        Ok(tables) => Rc::new(tables),
-        Err(message) => {
-            eprintln!("{message}");
-            return ExitCode::from(2);
-        }
-    };
+    let tables = numbered_or_exit();
     let mut recorder = Recorder {
         right: Judged::new(tables.clone()),
         tables,
