@@ -36,7 +36,8 @@ ieiAt e = ieiOf (getD (e .octets) 0 0)
 
 -- ---- what was met: set-aside elements count too
 
--- the set of the places met, as a number whose bit k is place k's, and the highest of them
+-- the set of the places met, as a number whose bit k is place k's, and the highest of them: 0 while none was met, which is
+-- above no place
 pub record Met : Type 0 where
   pub places : ℕ
   pub highest : ℕ

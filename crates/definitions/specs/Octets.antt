@@ -15,7 +15,7 @@ remaining at s = length s - at
 unfoldable pub run : ℕ → ℕ → List ℕ → Option (List ℕ)
 run n at s = pick (leb (at + n) (length s)) (some (take n (drop at s))) none
 
--- the number that octets are, the high one first (TS 24.007, 11.2.1.1)
+-- the number that octets are, the high one first ("Rows of a table", TLV-E)
 unfoldable pub number : List ℕ → ℕ
 number [] = 0
 number (x ∷ xs) = x * 256 ^ length xs + number xs
