@@ -1,6 +1,7 @@
 // The order log: how the elements came, where that is another order than the table's. An entry is 00 and the IEI of an
 // accepted element, or one octet: 01 unknown, 02 malformed, 03 repeated, 04 out of sequence. A log is a lent buffer and how
 // many of its octets are used.
+use crate::unknown_ies::MOST_LOG;
 use crate::unknown_ies::Pushed;
 ghost use mathlib.Core.Path.{_≡_};
 ghost use Prim.Native.Nat.{_≤_, _<_};
@@ -10,8 +11,6 @@ ghost use Rattle.definitions.specs.Logs.{orderEntry, orderList, orderPush, orde
 ghost use Rattle.definitions.proofs.Orders.{orderFront, asideBy};
 ghost use Rattle.logs.specs.Kept.{pushedAs, usedOf, ifRoom};
 ghost use Rattle.logs.specs.Order.{placedAs, frontAs, Stepped, toldBy, tell, startWalk, entryAs};
-
-const MOST_LOG: usize = 131_070;
 
 // Why an element that has a place was set aside.
 pub enum IgnoredIeReason {

@@ -1,5 +1,6 @@
 // The kept log: each element that no row took as its octet count in unsigned LEB128, then its octets. A log is a lent buffer
 // and how many of its octets are used.
+use octets::MOST_OCTETS;
 use octets::part;
 use octets::put_slice;
 ghost use mathlib.Core.Path.{_≡_};
@@ -11,10 +12,8 @@ ghost use Rattle.definitions.specs.Logs.{leb128, keptEntry, countAt, allowed, k
 ghost use Rattle.definitions.proofs.Logs.{entryOf};
 ghost use Rattle.logs.specs.Kept.{countOf, countFrom, stepOf, toldBy, tell, startWalk, pushedAs, countedAs, gotAs, usedOf, partOf, keptInto};
 
-// The most octets of an element, and of a log that is used.
-const MOST_OCTETS: usize = 65_535;
-
-const MOST_LOG: usize = 131_070;
+// The most octets of a log that are used.
+pub const MOST_LOG: usize = 131_070;
 
 // What pushing answers: the octets then used, or a refusal.
 pub enum Pushed {

@@ -2,6 +2,7 @@
 use crate::fill::fill;
 use crate::measure::Measured;
 use crate::measure::measure;
+use octets::MOST_OCTETS;
 use tables::check::Checked;
 use tables::check::check_and_index;
 use tables::real::INDEX_P;
@@ -29,9 +30,6 @@ ghost use Rattle.definitions.specs.Reading.{reading, readingBy};
 ghost use Rattle.tables.specs.Real.{realOf};
 ghost use Rattle.message.specs.Steps.{Indexed};
 ghost use Rattle.message.specs.Decodes.{lentOf, Reads};
-
-// The most octets of a part.
-const MOST_OCTETS: usize = 65_535;
 
 // What a refusal for want of room names.
 pub enum Room {

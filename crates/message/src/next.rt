@@ -4,14 +4,13 @@ use crate::element::State;
 use crate::element::Step;
 use crate::element::element_step;
 use crate::seen::Seen;
+use octets::MOST_OCTETS;
 use tables::check::Checked;
 use tables::check::check_and_index;
 ghost use mathlib.Core.Path.{_≡_};
 ghost use Rattle.definitions.specs.Rows.{rowsOf};
 ghost use Rattle.message.specs.Steps.{Indexed};
 ghost use Rattle.message.specs.Nexts.{nextFrom, nextOf, startState};
-
-const MOST_OCTETS: usize = 65_535;
 
 // What stands at a state's position, or a refusal: the part is too long, or the table fails its check.
 pub enum NextElement {

@@ -1,4 +1,5 @@
 // Showing the value of a place: where its row says it is, after the checks of the table and of every row.
+use octets::MOST_OCTETS;
 use octets::part;
 use tables::check::Checked;
 use tables::check::check_table;
@@ -14,8 +15,6 @@ ghost use Rattle.definitions.specs.Values.{valueAt, octetsAt, fits, showing};
 ghost use Rattle.logs.specs.Kept.{usedOf};
 ghost use Rattle.tables.specs.Forms.{formAs};
 ghost use Rattle.message.specs.Shows.{valueOf, sourcesOf, goodBy, anyBad, shownAs, shownRow};
-
-const MOST_OCTETS: usize = 65_535;
 
 // The three numbers of a place: source, start and length of its value.
 pub struct ValueRow {

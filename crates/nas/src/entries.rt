@@ -3,13 +3,12 @@ use logs::ie_order::Front;
 use logs::ie_order::IgnoredIeReason;
 use logs::ie_order::Placed;
 use logs::ie_order::order_push;
+use logs::unknown_ies::MOST_LOG;
 use logs::unknown_ies::Pushed;
 ghost use mathlib.Core.Path.{_≡_};
 ghost use Rattle.logs.specs.Kept.{pushedAs, usedOf};
 ghost use Rattle.logs.specs.Order.{frontAs};
 ghost use Rattle.nas.specs.Entries.{placedBy, orderPushBy};
-
-const MOST_LOG: usize = 131_070;
 
 // 0 is an accepted element with its IEI, 1 to 4 are the others, whatever the IEI; a number over 4 is no entry.
 fn entry_of(entry: u8, iei: u8) -> Front

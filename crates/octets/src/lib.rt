@@ -6,6 +6,9 @@ ghost use Rattle.definitions.specs.Basic.{over};
 ghost use Rattle.definitions.specs.Octets.{remaining, run, numberAt};
 ghost use Rattle.octets.specs.Answers.{runOf, movedOf, octetOf, pairOf, fourOf, octetsOf};
 
+// The most octets of a part, of received or set octets, and of an element.
+pub const MOST_OCTETS: usize = 65_535;
+
 // Where the next octet is read.
 pub struct Cursor {
     pub at: usize,
