@@ -1,4 +1,4 @@
--- Showing a value by the numbers that the code has at hand: a row by its source, every row in turn, the checks in their order.
+-- Showing a value: a row by its source, every row in turn, the checks in their order.
 -- Each law settles the tests before it.
 use Prim.Native.Nat.{ℕ, zero, suc, _+_, _*_, _-_, _≤_, _<_}
 use native.Mathlib.Omega.{arith}
@@ -9,54 +9,34 @@ use mathlib.Core.Bool.{Bool, true, false, _&&_, _||_, not}
 use mathlib.Core.Option.{Option, none, some}
 use borrow.Author.Tests.{le-leb, lt-leb, lt-ltb, le-ltb, eq-eqb, ne-eqb}
 use lib.ListN.{length, getD, take, drop}
-use lib.Seq.{take-nil, drop-nil, length-take-le}
+use lib.Seq.{take-nil, drop-nil}
 use lib.Dec.{leb, eqb, ltb}
 use Rattle.definitions.specs.Basic.{pick, isNone, Answer, answer, refuse, refusal, unless, Used, content, tooLong, mostOctets}
 use Rattle.definitions.specs.Rows.{Row, Form, half, fixed, tlv, tlv-e, rowsOf, rowAt, form, firstBad}
 use Rattle.definitions.specs.Values.{Octets, Value, valueAt, present, sourceOf, octetsAt, goodValue, firstFrom, badRows, fits, unfitAt, valuesTooLong, placeChecks, shownBy, showing}
 use Rattle.logs.specs.Kept.{usedOf}
-use Rattle.message.specs.Shows.{sourcesOf, longOf, goodBy, anyBad, shownRow}
+use Rattle.message.specs.Shows.{sourcesOf, shownRow}
 
 -- ---- a row by its source
 
-module _ (received set : ℕ) (v : Value) where
-  pub good-over : 2 < v .source → goodBy received set v ≡ false
-  unfolding goodBy
+module _ (o : Octets) (v : Value) where
+  pub good-over : 2 < v .source → goodValue o v ≡ false
+  unfolding goodValue
   good-over h = rw (lt-leb (v .source) 2 h)
 
-  pub good-absent : v .source ≡ 0 → goodBy received set v ≡ (eqb (v .start) 0 && eqb (v .size) 0)
-  unfolding goodBy present
+  pub good-absent : v .source ≡ 0 → goodValue o v ≡ (eqb (v .start) 0 && eqb (v .size) 0)
+  unfolding goodValue present
   good-absent e = rw e
 
-  pub good-received : v .source ≡ 1 → goodBy received set v ≡ leb (v .start + v .size) received
-  unfolding goodBy present longOf
+  pub good-received : v .source ≡ 1 → goodValue o v ≡ leb (v .start + v .size) (length (o .received))
+  unfolding goodValue present sourceOf
   good-received e = rw e
 
-  pub good-set : v .source ≡ 2 → goodBy received set v ≡ leb (v .start + v .size) set
-  unfolding goodBy present longOf
+  pub good-set : v .source ≡ 2 → goodValue o v ≡ leb (v .start + v .size) (length (o .set))
+  unfolding goodValue present sourceOf
   good-set e = rw e
 
--- the definition's rule by the octets' lengths
-long-of : (o : Octets) (n : ℕ) → length (sourceOf o n) ≡ longOf (length (o .received)) (length (o .set)) n
-unfolding sourceOf longOf
-long-of o zero = refl
-long-of o (suc zero) = refl
-long-of o (suc (suc n)) = refl
-
-pub good-lengths : (o : Octets) (v : Value) → goodValue o v ≡ goodBy (length (o .received)) (length (o .set)) v
-unfolding goodValue goodBy
-good-lengths o v = rw (long-of o (v .source))
-
 -- ---- every row in turn
-
-first-same : (f g : ℕ → Bool) → ((k : ℕ) → f k ≡ g k) → (k n : ℕ) → firstFrom f k n ≡ firstFrom g k n
-unfolding firstFrom
-first-same f g e k zero = refl
-first-same f g e k (suc n) = rw (e k, first-same f g e (suc k) n)
-
-pub bad-lengths : (o : Octets) (rows : List ℕ) (n : ℕ) → badRows o rows n ≡ anyBad (length (o .received)) (length (o .set)) rows n
-unfolding badRows anyBad
-bad-lengths o rows n = rw (first-same (λ k. not (goodValue o (valueAt rows k))) (λ k. not (goodBy (length (o .received)) (length (o .set)) (valueAt rows k))) (λ k. ap not (good-lengths o (valueAt rows k))) 0 n)
 
 module _ (test : ℕ → Bool) (n k : ℕ) (h : k < n) where
   from-here : firstFrom test k (n - k) ≡ pick (test k) (some k) (firstFrom test (k + 1) (n - (k + 1)))
@@ -176,11 +156,3 @@ module _ (table rows received : List ℕ) (set : Used) (k : ℕ) (p : firstBad (
           (fits (form (rowAt (rowsOf table) k)) (valueAt rows k .source) (octetsAt (sourcesOf received (content set)) (valueAt rows k)))
           k
           (shownBy (form (rowAt (rowsOf table) k)) (sourcesOf received (content set)) (valueAt rows k)))
-
--- whether a row is bad, by how many octets there are and how many are used
-pub bad-used :
-    (received : List ℕ) (set : Used) (rows : List ℕ) (n : ℕ)
-    → set .used ≤ length (set .buffer)
-    → badRows (sourcesOf received (content set)) rows n ≡ anyBad (length received) (set .used) rows n
-unfolding content
-bad-used received set rows n h = rw (bad-lengths (sourcesOf received (content set)) rows n, length-take-le (set .used) (set .buffer) h)

@@ -11,10 +11,10 @@ ghost use mathlib.Core.Option.{none};
 ghost use Prim.Native.Nat.{_*_, _≤_, _<_, _+_};
 ghost use lib.ListN.{length, getD};
 ghost use Rattle.definitions.specs.Rows.{rowsOf, rowAt, form, firstBad};
-ghost use Rattle.definitions.specs.Values.{valueAt, octetsAt, fits, showing};
+ghost use Rattle.definitions.specs.Values.{valueAt, octetsAt, goodValue, badRows, fits, showing};
 ghost use Rattle.logs.specs.Kept.{usedOf};
 ghost use Rattle.tables.specs.Forms.{formAs};
-ghost use Rattle.message.specs.Shows.{valueOf, sourcesOf, goodBy, anyBad, shownAs, shownRow};
+ghost use Rattle.message.specs.Shows.{valueOf, sourcesOf, shownAs, shownRow};
 
 // The three numbers of a place: source, start and length of its value.
 pub struct ValueRow {
@@ -59,8 +59,8 @@ fn row_at(rows: &[u32], place: usize) -> ValueRow
 }
 
 // Whether a row is well formed: a source of 0 to 2, a value that ends within its octets, an absent one all zeros.
-fn is_good(row: ValueRow, received: usize, set: usize) -> bool
-    ensures { λ r. ⌜ r ≡ goodBy received set (valueOf row) ⌝ }
+fn is_good(row: ValueRow, received: &[u8], set: &[u8]) -> bool
+    ensures { λ r. ⌜ r ≡ goodValue (sourcesOf (now (received .entry)) (now (set .entry))) (valueOf row) ⌝ }
 {
     if row.source > 2 {
         return false;
@@ -73,9 +73,9 @@ fn is_good(row: ValueRow, received: usize, set: usize) -> bool
     }
     let end = wide(row.start) + wide(row.len);
     if row.source == 1 {
-        return end <= received;
+        return end <= received.len();
     }
-    end <= set
+    end <= set.len()
 }
 
 fn wide(x: u32) -> usize
@@ -85,9 +85,9 @@ fn wide(x: u32) -> usize
 }
 
 // Whether a row of the first n is malformed.
-fn any_bad(rows: &[u32], n: usize, received: usize, set: usize) -> bool
+fn any_bad(rows: &[u32], n: usize, received: &[u8], set: &[u8]) -> bool
     requires { ⌜ n ≤ 128 ⌝ }
-    ensures { λ r. ⌜ r ≡ anyBad received set (now (rows .entry)) n ⌝ }
+    ensures { λ r. ⌜ r ≡ badRows (sourcesOf (now (received .entry)) (now (set .entry))) (now (rows .entry)) n ⌝ }
 {
     let mut k = 0;
     while k < n {
@@ -184,7 +184,8 @@ fn show_checked<'a>(
     if rows.len() < 3 * n {
         return Shown::NoRoom;
     }
-    if any_bad(rows, n, received.len(), used) {
+    let content = &set[..used];
+    if any_bad(rows, n, received, content) {
         return Shown::Malformed;
     }
     if place >= n {
@@ -194,7 +195,7 @@ fn show_checked<'a>(
         form_at(table, place),
         row_at(rows, place),
         received,
-        &set[..used],
+        content,
         place,
     )
 }

@@ -6,8 +6,8 @@ use mathlib.Core.Path.{_≡_, refl, ap, sym, _∙_}
 use mathlib.Core.Bool.{Bool, not}
 use borrow.Author.Tests.{not-true, not-false}
 use Rattle.definitions.specs.Basic.{isNone}
-use Rattle.definitions.specs.Values.{Value, valueAt, firstFrom}
-use Rattle.message.specs.Shows.{goodBy, anyBad}
+use Rattle.definitions.specs.Values.{Value, valueAt, goodValue, firstFrom, badRows}
+use Rattle.message.specs.Shows.{sourcesOf}
 use Rattle.message.proofs.Showing.{first-yes, first-no, first-end}
 use borrow.Author.Needs.{needs}
 use Rattle.message.proofs.show.any_bad.Statement.{statement}
@@ -15,7 +15,7 @@ use Rattle.message.proofs.show.any_bad.Tie as tie
 
 abbrev Inv-loop : tie.InvT-loop
 Inv-loop rows n received set k₀ k =
-    (k ≤ n) × (isNone (firstFrom (λ j. not (goodBy received set (valueAt rows j))) k (n - k)) ≡ isNone (firstFrom (λ j. not (goodBy received set (valueAt rows j))) 0 n))
+    (k ≤ n) × (isNone (firstFrom (λ j. not (goodValue (sourcesOf received set) (valueAt rows j))) k (n - k)) ≡ isNone (firstFrom (λ j. not (goodValue (sourcesOf received set) (valueAt rows j))) 0 n))
 
 abbrev μ-loop : tie.MeasureT-loop
 μ-loop rows n received set k₀ k = n - k
@@ -24,7 +24,7 @@ minus-zero : (n : ℕ) → n - 0 ≡ n
 minus-zero n = omega arith
 
 loop-holds : tie.Need-loop-holds Inv-loop μ-loop
-loop-holds c = (omega arith, ap (λ (m : ℕ). isNone (firstFrom (λ j. not (goodBy (c .before .args .received) (c .before .args .set) (valueAt (c .before .args .rows .now) j))) 0 m)) (minus-zero (c .before .args .n)))
+loop-holds c = (omega arith, ap (λ (m : ℕ). isNone (firstFrom (λ j. not (goodValue (sourcesOf (c .before .before .before .args .received .now) (c .before .before .before .args .set .now)) (valueAt (c .before .before .before .args .rows .now) j))) 0 m)) (minus-zero (c .before .before .before .args .n)))
 
 row-at-requires : tie.Need-row-at-requires Inv-loop μ-loop
 row-at-requires c κs = omega arith
@@ -33,12 +33,12 @@ is-good-requires : tie.Need-is-good-requires Inv-loop μ-loop
 is-good-requires c κs = search needs
 
 -- the row that was looked at
-good-here : (c : tie.After-is-good Inv-loop μ-loop) → c .is-good .result ≡ goodBy (c .before .before .before .before .before .args .received) (c .before .before .before .before .before .args .set) (valueAt (c .before .before .before .before .before .args .rows .now) (c .before .before .before .loop .k))
-good-here c = c .is-good .ensures ∙ ap (goodBy (c .before .before .before .before .before .args .received) (c .before .before .before .before .before .args .set)) (c .before .row-at .ensures)
+good-here : (c : tie.After-is-good Inv-loop μ-loop) → c .is-good .result ≡ goodValue (sourcesOf (c .before .before .before .before .before .before .before .args .received .now) (c .before .before .before .before .before .before .before .args .set .now)) (valueAt (c .before .before .before .before .before .before .before .args .rows .now) (c .before .before .before .loop .k))
+good-here c = c .is-good .ensures ∙ ap (goodValue (sourcesOf (c .before .before .before .before .before .before .before .args .received .now) (c .before .before .before .before .before .before .before .args .set .now))) (c .before .row-at .ensures)
 
 returns : tie.Need-returns Inv-loop μ-loop
-unfolding anyBad
-returns c = sym (ap not (sym (c .before .before .before .before .loop .inv .1)) ∙ first-yes (λ j. not (goodBy (c .before .before .before .before .before .before .args .received) (c .before .before .before .before .before .before .args .set) (valueAt (c .before .before .before .before .before .before .args .rows .now) j))) (c .before .before .before .before .before .before .args .n) (c .before .before .before .before .loop .k) (omega arith) (ap not (sym (good-here (c .before))) ∙ c .if1 .taken))
+unfolding badRows
+returns c = sym (ap not (sym (c .before .before .before .before .loop .inv .1)) ∙ first-yes (λ j. not (goodValue (sourcesOf (c .before .before .before .before .before .before .before .before .args .received .now) (c .before .before .before .before .before .before .before .before .args .set .now)) (valueAt (c .before .before .before .before .before .before .before .before .args .rows .now) j))) (c .before .before .before .before .before .before .before .before .args .n) (c .before .before .before .before .loop .k) (omega arith) (ap not (sym (good-here (c .before))) ∙ c .if1 .taken))
 
 add-k : tie.Need-add-k Inv-loop μ-loop
 add-k c = omega arith
@@ -47,11 +47,11 @@ loop-less : tie.Need-loop-less Inv-loop μ-loop
 loop-less c = omega arith
 
 loop-again : tie.Need-loop-again Inv-loop μ-loop
-loop-again c = (omega arith, first-no (λ j. not (goodBy (c .before .before .before .before .before .before .args .received) (c .before .before .before .before .before .before .args .set) (valueAt (c .before .before .before .before .before .before .args .rows .now) j))) (c .before .before .before .before .before .before .args .n) (c .before .before .before .before .loop .k) (omega arith) (ap not (sym (good-here (c .before))) ∙ c .if1 .left) ∙ c .before .before .before .before .loop .inv .1)
+loop-again c = (omega arith, first-no (λ j. not (goodValue (sourcesOf (c .before .before .before .before .before .before .before .before .args .received .now) (c .before .before .before .before .before .before .before .before .args .set .now)) (valueAt (c .before .before .before .before .before .before .before .before .args .rows .now) j))) (c .before .before .before .before .before .before .before .before .args .n) (c .before .before .before .before .loop .k) (omega arith) (ap not (sym (good-here (c .before))) ∙ c .if1 .left) ∙ c .before .before .before .before .loop .inv .1)
 
 returns-2 : tie.Need-returns-2 Inv-loop μ-loop
-unfolding anyBad
-returns-2 c = sym (ap not (sym (c .before .loop .inv .1) ∙ first-end (λ j. not (goodBy (c .before .before .before .args .received) (c .before .before .before .args .set) (valueAt (c .before .before .before .args .rows .now) j))) (c .before .before .before .args .n) (c .before .loop .k) (omega arith)))
+unfolding badRows
+returns-2 c = sym (ap not (sym (c .before .loop .inv .1) ∙ first-end (λ j. not (goodValue (sourcesOf (c .before .before .before .before .before .args .received .now) (c .before .before .before .before .before .args .set .now)) (valueAt (c .before .before .before .before .before .args .rows .now) j))) (c .before .before .before .before .before .args .n) (c .before .loop .k) (omega arith)))
 
 pub any-bad-spec : {M : Type 1} → statement M
 any-bad-spec =
