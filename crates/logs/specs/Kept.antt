@@ -88,3 +88,7 @@ startWalk = record { at = 0; count = 0; start = 0; len = 0 }
 -- an element in the front of a buffer behind its count, if it is one that a log can hold and there is room
 unfoldable pub keptInto : List ℕ → List ℕ → List ℕ
 keptInto e buffer = pick (leb 1 (length e) && leb (length e) mostOctets) (ifRoom (keptEntry e) buffer) buffer
+
+-- how many octets that takes; 0 where nothing is written
+unfoldable pub keptTakes : List ℕ → List ℕ → ℕ
+keptTakes e buffer = pick (leb 1 (length e) && leb (length e) mostOctets) (pick (leb (length (keptEntry e)) (length buffer)) (length (keptEntry e)) 0) 0

@@ -10,7 +10,7 @@ ghost use lib.ListN.{length, take, drop};
 ghost use Rattle.definitions.specs.Basic.{over};
 ghost use Rattle.definitions.specs.Logs.{leb128, keptEntry, countAt, allowed, keptList, keptPush, keptCount, keptGet, keptClear};
 ghost use Rattle.definitions.proofs.Logs.{entryOf};
-ghost use Rattle.logs.specs.Kept.{countOf, countFrom, stepOf, toldBy, tell, startWalk, pushedAs, countedAs, gotAs, usedOf, partOf, keptInto};
+ghost use Rattle.logs.specs.Kept.{countOf, countFrom, stepOf, toldBy, tell, startWalk, pushedAs, countedAs, gotAs, usedOf, partOf, keptInto, keptTakes};
 
 // The most octets of a log that are used.
 pub const MOST_LOG: usize = 131_070;
@@ -322,19 +322,22 @@ pub fn kept_push(log: &mut [u8], used: usize, iei: u8, octets: &[u8]) -> Pushed
     }
 }
 
-// An element, its IEI first, behind its count into the front of a buffer, if it has from 1 to 65,535 octets and there is room.
-pub fn put_raw(out: &mut [u8], element: &[u8])
-    ensures { λ r. ⌜ now (out .exit) ≡ keptInto (now (element .entry)) (now (out .entry)) ⌝ }
+// An element, its IEI first, behind its count into the front of a buffer, if it has from 1 to 65,535 octets and there is room;
+// how many octets that takes, or 0.
+pub fn put_raw(out: &mut [u8], element: &[u8]) -> usize
+    ensures { λ r. ⌜ (r ≡ keptTakes (now (element .entry)) (now (out .entry))) × (now (out .exit) ≡ keptInto (now (element .entry)) (now (out .entry))) ⌝ }
 {
     let n = element.len();
     if n == 0 {
-        return;
+        return 0;
     }
     if n > MOST_OCTETS {
-        return;
+        return 0;
     }
-    if count_len(n) + n > out.len() {
-        return;
+    let need = count_len(n) + n;
+    if need > out.len() {
+        return 0;
     }
     put_entry(out, element[0], &element[1..]);
+    need
 }

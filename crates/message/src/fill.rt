@@ -16,9 +16,7 @@ use logs::ie_order::Placed;
 use logs::ie_order::entry_len;
 use logs::ie_order::put_placed;
 use logs::length::Length;
-use logs::unknown_ies::count_len;
 use logs::unknown_ies::put_raw;
-use octets::part;
 use tables::rows::form_of;
 use tables::rows::numbers_at;
 use tables::rows::places;
@@ -83,11 +81,11 @@ fn keep(octets: &[u8], e: Element, kept: &mut [u8], used: usize) -> usize
 {
     let placed = e.placed;
     let start = e.start;
-    let len = e.len;
+    let end = start + e.len;
     match placed {
         Placed::Known(_) => used,
-        Placed::Unknown => keep_octets(part(octets, start, len), kept, used),
-        Placed::Ignored(_) => keep_octets(part(octets, start, len), kept, used),
+        Placed::Unknown => keep_octets(&octets[start..end], kept, used),
+        Placed::Ignored(_) => keep_octets(&octets[start..end], kept, used),
     }
 }
 
@@ -96,8 +94,7 @@ fn keep_octets(element: &[u8], kept: &mut [u8], used: usize) -> usize
     requires { ⌜ (1 ≤ length (now element)) × (length (now element) ≤ 65535) × (used + length (keptEntry (now element)) ≤ length (now kept)) ⌝ }
     ensures { λ r. ⌜ (r ≡ used + length (keptEntry (now (element .entry)))) × (now (kept .exit) ≡ overAt used (keptEntry (now (element .entry))) (now (kept .entry))) ⌝ }
 {
-    put_raw(&mut kept[used..], element);
-    used + (count_len(element.len()) + element.len())
+    used + put_raw(&mut kept[used..], element)
 }
 
 // How an element came, into the rest of the order log, unless the table says it all; the octets then used.
