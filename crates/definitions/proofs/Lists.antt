@@ -83,13 +83,6 @@ unfolding over overAt
 over-cons x s [] h = absurd (omega arith)
 over-cons x s (y ∷ d) h = refl
 
--- octets that fit, put into the part by as many as there is room for
-pub lent-put : (n : ℕ) (s d : List ℕ) {ys : List ℕ} → n + length s ≤ length d
-    → ys ≡ over (take (length (take (length d - n) (drop n d))) s) (take (length d - n) (drop n d)) → putMid n (length d - n) d ys ≡ overAt n s d
-lent-put n s d h e =
-    let l : length s ≤ length (take (length d - n) (drop n d)) = simp (length-take, length-drop) (omega arith) in
-    rw (e, take-all (length (take (length d - n) (drop n d))) s l) (lent-over n s d (omega arith))
-
 -- a first piece written, and the part behind it lent for the second
 pub put-behind : (a b d : List ℕ) {c : ℕ} {d′ ys : List ℕ} → c ≡ length a → d′ ≡ over a d → length a ≤ length d
     → ys ≡ over b (take (length d′ - c) (drop c d′)) → putMid c (length d′ - c) d′ ys ≡ over (a ++ b) d
