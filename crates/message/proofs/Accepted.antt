@@ -1,17 +1,16 @@
 -- What stands behind an accepted element: its place is in the table and was not met, and it has its header.
 -- By the definition of a verdict: an accepted element is not repeated, and its row took it whole.
-use Prim.Native.Nat.{ℕ, zero, suc, _+_, _≤_, _<_}
-use native.Mathlib.Omega.{arith}
-use mathlib.Core.Path.{_≡_, refl, ap, sym, _∙_}
-use mathlib.Core.List.{List, [], _∷_}
-use mathlib.Core.Bool.{Bool, true, false, _&&_, not, true≢false, false≢true}
+use Prim.Native.Nat.{ℕ, _≤_, _<_}
+use mathlib.Core.Path.{_≡_, refl}
+use mathlib.Core.List.{List, _∷_}
+use mathlib.Core.Bool.{Bool, true, false, false≢true}
 use mathlib.Core.Option.{Option, none, some}
-use lib.ListN.{length, take}
+use lib.ListN.{length}
 use lib.Seq.{length-take-le}
-use Rattle.definitions.specs.Basic.{pick, bit}
-use Rattle.definitions.specs.Rows.{Row, rowAt, form, firstBad, placeOf}
+use Rattle.definitions.specs.Basic.{bit}
+use Rattle.definitions.specs.Rows.{Row, rowAt, form, firstBad}
 use Rattle.definitions.specs.Length.{header, whole}
-use Rattle.definitions.specs.Elements.{Verdict, accepted, unknown, malformed, repeated, outOfSequence, isAccepted, judged, taken, octetsOf, Element, Met, meet, stranger, known}
+use Rattle.definitions.specs.Elements.{isAccepted, judged, taken, octetsOf, Element, Met, meet, stranger, known}
 use Rattle.definitions.proofs.RowLaws.{listed}
 use Rattle.definitions.proofs.Steps.{Stands, strange, placed, Frames, whole-frames}
 

@@ -1,6 +1,6 @@
 -- How an element came, as a step of the definition: the index says its place, its row or the unknown rule the rest.
 -- Its first octet is the first of what is left; the two numbers of the places met lose nothing.
-use Prim.Native.Nat.{ℕ, zero, suc, _+_, _^_, _≤_, _<_, max}
+use Prim.Native.Nat.{ℕ, _^_, _≤_, _<_}
 use native.Mathlib.Omega.{arith}
 use mathlib.Core.Path.{_≡_, refl, ap, sym, _∙_}
 use mathlib.Core.List.{List, [], _∷_}
@@ -8,18 +8,18 @@ use mathlib.Core.Bool.{Bool, true, false}
 use mathlib.Core.Option.{Option, none, some}
 use mathlib.Core.Logic.{_⊎_, inl, inr}
 use borrow.Author.Tests.{lt-ltb, ne-eqb}
-use lib.ListN.{length, getD, take, drop, length-drop}
+use lib.ListN.{length, getD, drop, length-drop}
 use lib.Seq.{length-take-le, getD-take}
-use lib.Dec.{ltb, eqb}
+use lib.Dec.{ltb}
 use Rattle.definitions.specs.Basic.{pick, bit}
-use Rattle.definitions.specs.Rows.{Row, Form, form, formOf, rowsOf, rowAt, ieiOf, placeOf}
+use Rattle.definitions.specs.Rows.{Row, Form, form, rowsOf, rowAt, ieiOf, placeOf}
 use Rattle.definitions.specs.Length.{whole, unknownForm, unknownLength, required}
-use Rattle.definitions.specs.Elements.{judged, taken, takenBy, octetsOf, known, meet, including, ieiAt, stranger, strangerStep, Step as DefStep, next, cut, unknown, step, placeStep}
+use Rattle.definitions.specs.Elements.{taken, takenBy, octetsOf, known, meet, ieiAt, stranger, strangerStep, Step as DefStep, next, cut, step, placeStep}
 use Rattle.definitions.proofs.Steps.{Frames, whole-frames, front-octets, front-first}
 use Rattle.logs.specs.declared.ie_order.Placed.{Placed}
 use Rattle.tables.specs.Numbers.{numbersAt, rowBy, Whole}
 use Rattle.message.specs.Seen.{setOf, seenOf, includingPlace}
-use Rattle.message.specs.Steps.{placedFor, elementOf, stateOf, stepOf, metOf, Indexed, fitOf, cameKnown, cameStrange, stateAfter, foundAt}
+use Rattle.message.specs.Steps.{elementOf, stateOf, stepOf, metOf, Indexed, fitOf, cameKnown, cameStrange, stateAfter, foundAt}
 use Rattle.message.specs.declared.element.State.{State}
 use Rattle.message.specs.declared.element.Came.{Came}
 use Rattle.message.proofs.Sets.{seen-of}

@@ -1,15 +1,15 @@
 -- The measuring loop: what is needed so far and what is left of the part together are what the part needs.
 -- A step counts the element in front; each log needs at most twice the octets passed, so no sum wraps.
-use Prim.Native.Nat.{ℕ, zero, suc, _+_, _*_, _≤_, _<_, _^_}
+use Prim.Native.Nat.{ℕ, _*_, _≤_, _<_, _^_}
 use native.Mathlib.Omega.{arith}
 use mathlib.Core.Path.{_≡_, refl, ap, sym, _∙_}
-use mathlib.Core.List.{List, [], _∷_}
+use mathlib.Core.List.{List}
 use mathlib.Core.Bool.{Bool}
-use mathlib.Core.Option.{Option, none, some, Option·getD}
+use mathlib.Core.Option.{Option·getD}
 use lib.ListN.{length}
 use lib.Dec.{lit<}
 use Rattle.definitions.specs.Rows.{Row, rowsOf}
-use Rattle.definitions.specs.Elements.{Element as DefElement, Met, Parted, elements, cutShort, before, parted, stranger, known}
+use Rattle.definitions.specs.Elements.{Element as DefElement, Met, parted, stranger, known}
 use Rattle.definitions.proofs.Steps.{Stands, strange, placed}
 use Rattle.message.specs.Steps.{elementOf, Indexed}
 use Rattle.message.specs.Measures.{tallied, measuredFrom, noTally}
@@ -17,7 +17,6 @@ use Rattle.message.specs.Nexts.{startState}
 use Rattle.message.specs.declared.element.State.{State}
 use Rattle.message.specs.declared.element.Element.{Element}
 use Rattle.message.specs.declared.measure.Tally.{Tally}
-use Rattle.message.specs.declared.measure.Measured.{Measured}
 use Rattle.message.proofs.Nexts.{from, Nexts}
 use Rattle.message.proofs.Tallies.{has-place, tally-before, tally-room, Room}
 

@@ -3,24 +3,24 @@
 use Prim.Native.Nat.{ℕ, zero, suc, _+_, _*_, _≤_, _<_}
 use native.Mathlib.Omega.{arith}
 use mathlib.Core.Path.{_≡_, refl, ap, sym, _∙_}
-use mathlib.Core.List.{List, [], _∷_}
-use mathlib.Core.Bool.{Bool, true, false, _&&_}
-use mathlib.Core.Option.{Option, none, some}
+use mathlib.Core.List.{List, []}
+use mathlib.Core.Bool.{Bool, true, false}
+use mathlib.Core.Option.{none, some}
 use lib.ListN.{length, getD}
 use Rattle.definitions.specs.Basic.{pick, Answer, answer, over, mostOctets}
-use Rattle.definitions.specs.Rows.{Row, rowsOf, firstBad, index, indexEntry, placeOf}
+use Rattle.definitions.specs.Rows.{Row, rowsOf, firstBad, index}
 use Rattle.definitions.specs.Elements.{Element, Parted, elements, cutShort, elementsOf, parted}
 use Rattle.definitions.specs.Logs.{keptOf, entriesOf, plainFrom, orderOf}
-use Rattle.definitions.specs.Reading.{Lent, Read, unread, readElements, reading, readingBy, placeRows}
+use Rattle.definitions.specs.Reading.{Lent, Read, unread, readElements, reading, readingBy}
 use Rattle.definitions.specs.Tables.{tableOf, startOf}
-use Rattle.definitions.proofs.Readings.{read-bad, read-long, read-rows, read-cut, read-kept, read-order, read-done}
+use Rattle.definitions.proofs.Readings.{read-long, read-rows, read-cut, read-kept, read-order, read-done}
 use Rattle.definitions.proofs.RowLaws.{listed}
 use Rattle.definitions.proofs.TableLaws.{index-at, few-places}
 use Rattle.tables.proofs.WholeRows.{whole-rows}
 use Rattle.message.specs.Steps.{Indexed}
 use Rattle.message.specs.Measures.{measuredFrom, noTally}
 use Rattle.message.specs.Fills.{notesOf, Ready, Written}
-use Rattle.message.specs.Decodes.{decodedAs, roomAs, lentOf, Reads}
+use Rattle.message.specs.Decodes.{decodedAs, lentOf, Reads}
 use Rattle.message.specs.declared.decode.Decoded.{Decoded}
 use Rattle.message.specs.declared.decode.Room.{Room}
 use Rattle.message.specs.declared.measure.Measured.{Measured}

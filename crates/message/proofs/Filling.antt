@@ -1,19 +1,18 @@
 -- The filling loop: what is left to enter gives, from the present rows and logs, what the whole part gives from those at entry.
 -- A step enters the element in front; a log's pieces follow one another.
-use Prim.Native.Nat.{ℕ, zero, suc, _+_, _*_, _≤_, _<_, _^_}
+use Prim.Native.Nat.{ℕ, _+_, _*_, _≤_, _<_, _^_}
 use native.Mathlib.Omega.{arith}
 use mathlib.Core.Path.{_≡_, refl, ap, subst, sym, _∙_}
 use mathlib.Core.List.{List, [], _∷_, _++_}
 use mathlib.Core.Bool.{Bool, true, false}
-use mathlib.Core.Option.{Option, none, some, Option·getD}
+use mathlib.Core.Option.{Option, some, Option·getD}
 use lib.ListN.{length, take, drop, length-append}
 use Rattle.definitions.specs.Basic.{pick, over, overAt}
-use Rattle.definitions.specs.Rows.{Row, rowsOf, rowAt, form, firstBad}
+use Rattle.definitions.specs.Rows.{Row, rowsOf, rowAt, form}
 use Rattle.definitions.specs.Length.{header}
 use Rattle.definitions.specs.Elements.{Verdict, accepted, unknown, malformed, repeated, outOfSequence, isAccepted, Element as DefElement, ieiAt, Parted, elements, cutShort, elementsOf, before, parted}
 use Rattle.definitions.specs.Logs.{keptEntry, keptOf, entriesOf, placedOf, orderEntry}
 use Rattle.definitions.proofs.Lists.{over-next, over-none, length-overAt}
-use Rattle.definitions.proofs.Steps.{Stands}
 use Rattle.logs.specs.Order.{placedAs}
 use Rattle.logs.specs.declared.ie_order.Placed.{Placed}
 use Rattle.message.specs.Steps.{placedFor, elementOf, metOf}

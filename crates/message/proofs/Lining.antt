@@ -1,6 +1,6 @@
 -- A part of which the table says all: every element has a place and is accepted, so that its row's form says how long it is.
 -- Behind each position stands the state that reading would be in there; what is left to enter stays plain.
-use Prim.Native.Nat.{ℕ, zero, suc, _+_, _*_, _-_, _^_, _≤_, _<_}
+use Prim.Native.Nat.{ℕ, suc, _+_, _*_, _-_, _≤_, _<_}
 use native.Mathlib.Omega.{arith}
 use mathlib.Core.Path.{_≡_, refl, ap, sym, _∙_}
 use mathlib.Core.List.{List, [], _∷_}
@@ -8,13 +8,13 @@ use mathlib.Core.Bool.{Bool, true, false, _&&_, false≢true}
 use mathlib.Core.Option.{Option, none, some}
 use mathlib.Core.Logic.{inl, inr}
 use borrow.Author.Tests.{ne-eqb}
-use lib.ListN.{length, getD, take, drop, length-drop}
+use lib.ListN.{length, getD, drop, length-drop}
 use lib.Seq.{length-take-le}
 use lib.Dec.{eqb, leb, ltb}
 use Rattle.definitions.specs.Basic.{pick, bit, overAt}
 use Rattle.definitions.specs.Rows.{Row, rowsOf, rowAt, form, ieiOf, firstIei}
-use Rattle.definitions.specs.Length.{header, whole, unknownLength, required}
-use Rattle.definitions.specs.Elements.{Verdict, accepted, unknown, malformed, repeated, outOfSequence, isAccepted, judged, taken, octetsOf, Element as DefElement, ieiAt, Parted, elements, cutShort, elementsOf, parted, step}
+use Rattle.definitions.specs.Length.{whole, unknownLength, required}
+use Rattle.definitions.specs.Elements.{Verdict, accepted, unknown, malformed, repeated, outOfSequence, isAccepted, judged, taken, octetsOf, Element as DefElement, ieiAt, elements, elementsOf, parted, step}
 use Rattle.definitions.specs.Logs.{keptOf, plainFrom}
 use Rattle.definitions.proofs.Lists.{over-none}
 use Rattle.definitions.proofs.RowLaws.{both}
@@ -33,7 +33,7 @@ use Rattle.message.proofs.Accepted.{judged-accepted}
 use Rattle.message.proofs.Came.{Ways, came-here, row-same}
 use Rattle.message.proofs.Counting.{from-start}
 use Rattle.message.proofs.Filling.{Filling, begun, split, filled, moved, row-fits, ended, never-cut}
-use Rattle.message.proofs.Nexts.{from, Nexts, nexts, cuts, at-end}
+use Rattle.message.proofs.Nexts.{Nexts, nexts, cuts, at-end}
 
 -- ---- a plain element
 

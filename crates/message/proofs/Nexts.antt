@@ -1,18 +1,16 @@
 -- A step of the code as a step of the definition: the element found, the state behind it, and what is left of the part then.
 -- By cases on the definition's step; the state holds what was met as two numbers, which loses nothing.
-use Prim.Native.Nat.{ℕ, zero, suc, _+_, _*_, _-_, _/_, _%_, _^_, _≤_, _<_}
+use Prim.Native.Nat.{ℕ, _+_, _-_, _^_, _≤_, _<_}
 use native.Mathlib.Omega.{arith}
-use mathlib.Core.Path.{_≡_, refl, ap, ap₂, sym, _∙_}
-use mathlib.Core.List.{List, [], _∷_}
-use mathlib.Core.Bool.{Bool, true, false}
-use mathlib.Core.Option.{Option, none, some}
+use mathlib.Core.Path.{_≡_, refl, ap, sym, _∙_}
+use mathlib.Core.List.{List, []}
+use mathlib.Core.Bool.{Bool}
 use lib.ListN.{length, take, drop, length-drop}
 use lib.Seq.{drop-drop}
 use lib.Pow.{split}
 use Rattle.definitions.specs.Rows.{Row}
-use Rattle.definitions.specs.Elements.{Element as DefElement, Met, nothingMet, Parted, elements, cutShort, before, stepThen, Step as DefStep, next, cut, ended, step, parted, stranger, known}
+use Rattle.definitions.specs.Elements.{Element as DefElement, Met, Parted, elements, cutShort, before, stepThen, Step as DefStep, next, cut, ended, step, stranger, known}
 use Rattle.definitions.proofs.Steps.{partedFrom, parted-step, Stands, strange, placed, Front, stands-front, step-stood, Stood}
-use Rattle.message.specs.Seen.{setOf, seenOf}
 use Rattle.message.specs.Steps.{elementOf, stateOf, stepOf, metOf}
 use Rattle.message.specs.declared.element.State.{State}
 use Rattle.message.specs.declared.element.Element.{Element}

@@ -3,18 +3,17 @@
 use Prim.Native.Nat.{ℕ, zero, suc, _+_, _*_, _-_, _≤_, _<_}
 use native.Mathlib.Omega.{arith}
 use native.Mathlib.Numerals.{add-one}
-use mathlib.Core.Path.{_≡_, refl, ap, sym, _∙_}
-use mathlib.Core.List.{List, [], _∷_, _++_}
+use mathlib.Core.Path.{_≡_, refl, ap, _∙_}
+use mathlib.Core.List.{List, [], _∷_}
 use mathlib.Core.Bool.{Bool, true, false, _&&_, _||_, not}
-use mathlib.Core.Option.{Option, none, some}
-use borrow.Author.Tests.{le-leb, lt-leb, lt-ltb, le-ltb, eq-eqb, ne-eqb}
-use lib.ListN.{length, getD, take, drop}
+use mathlib.Core.Option.{none, some}
+use borrow.Author.Tests.{le-leb, lt-leb, lt-ltb, le-ltb}
+use lib.ListN.{length, take, drop}
 use lib.Seq.{take-nil, drop-nil}
-use lib.Dec.{leb, eqb, ltb}
-use Rattle.definitions.specs.Basic.{pick, isNone, Answer, answer, refuse, refusal, unless, Used, content, tooLong, mostOctets}
-use Rattle.definitions.specs.Rows.{Row, Form, half, fixed, tlv, tlv-e, rowsOf, rowAt, form, firstBad}
+use lib.Dec.{leb, eqb}
+use Rattle.definitions.specs.Basic.{pick, isNone, answer, refuse, refusal, unless, Used, content, tooLong}
+use Rattle.definitions.specs.Rows.{Form, rowsOf, rowAt, form, firstBad}
 use Rattle.definitions.specs.Values.{Octets, Value, valueAt, present, sourceOf, octetsAt, goodValue, firstFrom, badRows, fits, unfitAt, valuesTooLong, placeChecks, shownBy, showing}
-use Rattle.logs.specs.Kept.{usedOf}
 use Rattle.message.specs.Shows.{sourcesOf, shownRow}
 
 -- ---- a row by its source

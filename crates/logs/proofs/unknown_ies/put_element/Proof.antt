@@ -1,8 +1,8 @@
 -- `put_element` stores the IEI and lends the rest for the octets after it.
 -- The two pieces together are the front written.
-use Prim.Native.Nat.{ℕ, _+_, _≤_}
+use Prim.Native.Nat.{ℕ, _≤_}
 use native.Mathlib.Omega.{arith}
-use mathlib.Core.Path.{_≡_, ap, _∙_}
+use mathlib.Core.Path.{ap, _∙_}
 use mathlib.Core.List.{List, _∷_}
 use lib.ListN.{length, set, length-set, length-take, length-drop}
 use Rattle.definitions.proofs.Lists.{lent-over, over-cons, length-over}

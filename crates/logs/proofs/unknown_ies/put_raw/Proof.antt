@@ -1,11 +1,11 @@
 -- `put_raw` is `put_entry` of an element's first octet and the rest, where there is room.
 -- Each test is the definition's.
-use Prim.Native.Nat.{ℕ, _+_, _-_, _≤_, _<_}
+use Prim.Native.Nat.{ℕ, _-_, _≤_}
 use native.Mathlib.Omega.{arith}
-use mathlib.Core.Path.{_≡_, refl, ap, sym, _∙_}
-use mathlib.Core.List.{List, _∷_}
+use mathlib.Core.Path.{ap, _∙_}
+use mathlib.Core.List.{List}
 use borrow.Author.Tests.{le-leb, lt-leb}
-use lib.ListN.{length, getD, take, drop, length-take, length-drop}
+use lib.ListN.{length, length-take, length-drop}
 use Rattle.definitions.specs.Basic.{over}
 use Rattle.definitions.specs.Logs.{keptEntry}
 use Rattle.definitions.proofs.Logs.{entry-length, count-short}

@@ -1,6 +1,5 @@
 -- `after` is the state behind an element: further by its octets, and a place is met.
 -- By whether there is a place.
-use Prim.Native.Nat.{_+_}
 use borrow.Author.Tests.{eq-eqb, ne-eqb}
 use Rattle.message.specs.Steps.{stateAfter}
 use borrow.Author.Needs.{needs}

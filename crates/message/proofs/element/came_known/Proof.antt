@@ -1,6 +1,5 @@
 -- `came_known` is how an element with a place came: its row's length, and the verdict by whether the row takes it.
 -- By what the two functions that it calls answer.
-use mathlib.Core.Path.{_≡_, sym, _∙_}
 use borrow.Author.Needs.{needs}
 use Rattle.message.proofs.element.came_known.Statement.{statement}
 use Rattle.message.proofs.element.came_known.Tie as tie

@@ -1,6 +1,6 @@
 -- `came_unknown` is how an element without a place came: by the unknown rule's length, and cut short by its first octet.
 -- The length answered is the rule's.
-use mathlib.Core.Path.{_≡_, ap, sym, _∙_}
+use mathlib.Core.Path.{sym, _∙_}
 use Rattle.definitions.specs.Length.{unknownLength}
 use Rattle.logs.proofs.Laws.{length-is, length-cut}
 use borrow.Author.Needs.{needs}

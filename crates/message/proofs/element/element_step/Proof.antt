@@ -1,6 +1,5 @@
 -- `element_step` is the definition's step at the position: the end, or what the element that came there makes of it.
 -- The index says which of the two ways it came; what is handed on is what is left of the part.
-use Prim.Native.Nat.{ℕ, _+_, _≤_, _<_}
 use native.Mathlib.Omega.{arith}
 use mathlib.Core.Path.{_≡_, refl, ap, sym, _∙_}
 use mathlib.Core.Logic.{⊎-elim, inl, inr}

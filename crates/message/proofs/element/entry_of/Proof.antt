@@ -1,7 +1,7 @@
 -- `entry_of` is the entry of the index at the IEI, as a number of the machine's width.
 -- An IEI is below 256.
 use Prim.Native.Nat.{ℕ}
-use mathlib.Core.Path.{_≡_, ap, sym, _∙_}
+use mathlib.Core.Path.{ap, _∙_}
 use lib.ListN.{getD}
 use borrow.Author.Needs.{needs}
 use Rattle.message.proofs.element.entry_of.Statement.{statement}

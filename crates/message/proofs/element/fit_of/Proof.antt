@@ -1,10 +1,9 @@
 -- `fit_of` is an element by its row: as long as the form says, and taken or not; cut short, the rest and not taken.
 -- The length answered is that of the form that the row's numbers say.
-use Prim.Native.Nat.{_≤_, _<_}
 use native.Mathlib.Omega.{arith}
 use mathlib.Core.Path.{_≡_, sym, _∙_}
 use mathlib.Core.Option.{none, some}
-use lib.ListN.{length, take, length-take}
+use lib.ListN.{length-take}
 use lib.Seq.{length-take-le}
 use Rattle.definitions.specs.Rows.{form}
 use Rattle.definitions.specs.Length.{whole}

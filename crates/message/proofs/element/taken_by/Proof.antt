@@ -1,6 +1,5 @@
 -- `taken_by` is the row's own rule: the least length, then the value rule.
 -- The header is that of the form that the row's numbers say.
-use Prim.Native.Nat.{_≤_, _<_}
 use native.Mathlib.Omega.{arith}
 use mathlib.Core.Path.{_≡_, ap, sym, _∙_}
 use Rattle.definitions.specs.Rows.{form}

@@ -1,14 +1,12 @@
 -- `enter_row` stores where the value of an accepted element is.
 -- Each arm names how it came; the octets before the value are its form's.
-use Prim.Native.Nat.{ℕ, _+_, _*_, _≤_, _<_}
+use Prim.Native.Nat.{_+_, _*_, _≤_, _<_}
 use native.Mathlib.Omega.{arith}
 use mathlib.Core.Path.{_≡_, ap, sym, _∙_}
-use mathlib.Core.List.{List}
 use lib.ListN.{length}
 use Rattle.definitions.specs.Rows.{rowsOf, form}
 use Rattle.definitions.specs.Length.{header}
-use Rattle.logs.specs.declared.ie_order.Placed.{Placed}
-use Rattle.message.specs.Fills.{before, rowBy, RowFitsBy, rowEntered}
+use Rattle.message.specs.Fills.{before, rowBy, rowEntered}
 use borrow.Author.Needs.{needs}
 use Rattle.message.proofs.fill.enter_row.Statement.{statement}
 use Rattle.message.proofs.fill.enter_row.Tie as tie

@@ -1,15 +1,14 @@
 -- `fill` clears the rows and enters every element; of a plain part the logs are left as they are.
 -- Entering every element into rows of zeros gives the rows of the places.
 use Prim.Native.Nat.{ℕ, _*_}
-use mathlib.Core.Path.{_≡_, refl, ap, sym, _∙_}
+use mathlib.Core.Path.{_≡_, ap, sym, _∙_}
 use mathlib.Core.List.{List}
-use lib.ListN.{length, replicate}
+use lib.ListN.{replicate}
 use Rattle.definitions.specs.Basic.{over}
 use Rattle.definitions.specs.Rows.{rowsOf}
 use Rattle.definitions.specs.Elements.{elementsOf, parted}
-use Rattle.definitions.specs.Logs.{keptOf}
 use Rattle.definitions.specs.Reading.{placeRows}
-use Rattle.message.specs.Fills.{enteredAll, notesOf}
+use Rattle.message.specs.Fills.{enteredAll}
 use Rattle.message.proofs.Entered.{all-entered}
 use Rattle.message.proofs.Lining.{plain-kept, plain-ready, still-ready}
 use borrow.Author.Needs.{needs}

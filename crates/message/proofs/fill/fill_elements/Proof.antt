@@ -1,8 +1,8 @@
 -- `fill_elements` enters an element a turn: the invariant says that what is left to enter gives what the whole part gives.
 -- The measure is what is left of the part; a part that decodes is never cut short.
-use Prim.Native.Nat.{_-_, _<_}
+use Prim.Native.Nat.{_-_}
 use native.Mathlib.Omega.{arith}
-use mathlib.Core.Path.{_≡_, refl, ap, sym, _∙_}
+use mathlib.Core.Path.{_≡_, refl, _∙_}
 use mathlib.Core.Logic.{⊎-elim, inl, inr}
 use lib.ListN.{length, getD, drop}
 use Rattle.definitions.specs.Rows.{rowsOf}

@@ -1,10 +1,10 @@
 -- `fill_plain` enters an element a turn: each is as long as its row's form says, and is accepted.
 -- The measure is what is left of the part; what is left to enter gives what the whole part gives.
-use Prim.Native.Nat.{ℕ, _+_, _-_, _≤_, _<_}
+use Prim.Native.Nat.{ℕ, _-_}
 use native.Mathlib.Omega.{arith}
 use mathlib.Core.Path.{_≡_, ap, sym, _∙_}
-use mathlib.Core.Option.{Option, none, some}
-use lib.ListN.{length, getD, drop}
+use mathlib.Core.Option.{none, some}
+use lib.ListN.{length}
 use Rattle.definitions.specs.Rows.{rowsOf, rowAt, form}
 use Rattle.definitions.specs.Length.{header, whole}
 use Rattle.definitions.proofs.Lists.{to-end}

@@ -1,13 +1,12 @@
 -- `keep` keeps the octets of an element that no row took.
 -- Each arm names how it came; an accepted one has no entry.
-use Prim.Native.Nat.{ℕ, _+_, _-_, _≤_}
+use Prim.Native.Nat.{ℕ, _+_, _-_}
 use native.Mathlib.Omega.{arith}
-use mathlib.Core.Path.{_≡_, refl, ap, sym, _∙_}
-use mathlib.Core.List.{List, []}
+use mathlib.Core.Path.{_≡_, ap, sym}
+use mathlib.Core.List.{[]}
 use lib.ListN.{length, take, drop, length-take, length-drop}
 use Rattle.definitions.specs.Logs.{keptEntry}
 use Rattle.definitions.proofs.Lists.{over-none}
-use Rattle.logs.specs.declared.ie_order.Placed.{Placed}
 use Rattle.message.specs.Fills.{keptOfFound, entryBy}
 use borrow.Author.Needs.{needs}
 use Rattle.message.proofs.fill.keep.Statement.{statement}

@@ -1,8 +1,8 @@
 -- `keep_octets` lends the rest of the log for the entry.
 -- There is room for it, so it is written whole.
-use Prim.Native.Nat.{ℕ, _+_, _-_, _≤_}
+use Prim.Native.Nat.{_-_}
 use native.Mathlib.Omega.{arith}
-use mathlib.Core.Path.{_≡_, ap, _∙_}
+use mathlib.Core.Path.{_≡_, _∙_}
 use lib.ListN.{length, take, drop, length-take, length-drop}
 use Rattle.definitions.specs.Logs.{keptEntry}
 use Rattle.definitions.proofs.Lists.{lent-over}

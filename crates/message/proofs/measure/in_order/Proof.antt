@@ -1,7 +1,5 @@
 -- `in_order` takes the three tests in their order.
 -- Each way out has the tests that decide it.
-use Prim.Native.Nat.{_<_, _≤_}
-use mathlib.Core.Path.{_≡_, sym}
 use borrow.Author.Tests.{le-leb, lt-leb, not-true, not-false}
 use Rattle.message.specs.Measures.{inOrder}
 use borrow.Author.Needs.{needs}

@@ -2,11 +2,10 @@
 -- The measure is what is left to look at.
 use Prim.Native.Nat.{ℕ, _≤_, _-_}
 use native.Mathlib.Omega.{arith}
-use mathlib.Core.Path.{_≡_, refl, ap, sym, _∙_}
-use mathlib.Core.Bool.{Bool, not}
-use borrow.Author.Tests.{not-true, not-false}
+use mathlib.Core.Path.{_≡_, ap, sym, _∙_}
+use mathlib.Core.Bool.{not}
 use Rattle.definitions.specs.Basic.{isNone}
-use Rattle.definitions.specs.Values.{Value, valueAt, goodValue, firstFrom, badRows}
+use Rattle.definitions.specs.Values.{valueAt, goodValue, firstFrom, badRows}
 use Rattle.message.specs.Shows.{sourcesOf}
 use Rattle.message.proofs.Showing.{first-yes, first-no, first-end}
 use borrow.Author.Needs.{needs}

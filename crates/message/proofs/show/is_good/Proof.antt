@@ -1,7 +1,7 @@
 -- `is_good` is the rule of a row by its source.
 -- Each way out names the source.
 use native.Mathlib.Omega.{arith}
-use mathlib.Core.Path.{_≡_, ap, sym, _∙_}
+use mathlib.Core.Path.{sym}
 use borrow.Author.Tests.{eq-eqb, ne-eqb}
 use Rattle.message.specs.Shows.{valueOf, sourcesOf}
 use Rattle.message.proofs.Showing.{good-over, good-absent, good-received, good-set}

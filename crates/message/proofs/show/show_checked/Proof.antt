@@ -1,19 +1,17 @@
 -- `show_checked` makes the checks in their order, and shows the row.
 -- Each way out cites the law of its check.
-use Prim.Native.Nat.{ℕ, _*_, _≤_}
 use native.Mathlib.Omega.{arith}
 use mathlib.Core.Path.{_≡_, ap, sym, _∙_}
-use mathlib.Core.Bool.{Bool, true, false, _||_}
+use mathlib.Core.Bool.{Bool, _||_}
 use borrow.Author.Tests.{le-leb, lt-leb}
 use lib.ListN.{length, length-take}
 use lib.Dec.{leb}
 use Rattle.definitions.specs.Basic.{content}
-use Rattle.definitions.specs.Rows.{rowsOf, rowAt, form}
-use Rattle.definitions.specs.Values.{valueAt, badRows}
+use Rattle.definitions.specs.Rows.{rowsOf}
+use Rattle.definitions.specs.Values.{badRows}
 use Rattle.definitions.proofs.TableLaws.{few-places}
 use Rattle.logs.specs.Kept.{usedOf}
-use Rattle.tables.specs.Forms.{formAs}
-use Rattle.message.specs.Shows.{sourcesOf, shownRow}
+use Rattle.message.specs.Shows.{sourcesOf}
 use Rattle.message.proofs.Showing.{long-received, long-buffer, long-used, not-long, show-long, show-room, show-bad, show-good}
 use borrow.Author.Needs.{needs}
 use Rattle.message.proofs.show.show_checked.Statement.{statement}

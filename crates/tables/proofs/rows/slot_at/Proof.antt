@@ -1,11 +1,11 @@
 -- `slot_at` is one of the four numbers that stand for IEIs in the row at the place.
 -- The law of row k, at this column; past the fourth there is none.
 use native.Mathlib.Omega.{arith}
-use Prim.Native.Nat.{_*_, _+_}
-use mathlib.Core.Path.{_≡_, ap, sym, _∙_}
+use Prim.Native.Nat.{_*_}
+use mathlib.Core.Path.{ap, sym, _∙_}
 use lib.ListN.{getD, take, drop, length-take, List·getD-eq-default}
 use lib.Seq.{getD-drop, getD-take}
-use Rattle.definitions.specs.Rows.{Row, rowOf, rowsOf, rowAt}
+use Rattle.definitions.specs.Rows.{Row, rowOf}
 use Rattle.definitions.proofs.TableLaws.{row-at}
 use borrow.Author.Needs.{needs}
 use Rattle.tables.proofs.rows.slot_at.Statement.{statement}
