@@ -1,4 +1,4 @@
-//! Parts: of elements that a table has or does not have, of every length around each boundary, and damaged copies of them.
+//! Parts made of elements with and without a place, with lengths at and beside each limit, and spoiled copies of them.
 //! Room for reading them: exact, one short, plenty.
 
 use crate::judge::{Model, Reading, Room};

@@ -103,14 +103,6 @@ count-allowed s = by (countF 3 s) (shortest 2 s)
     by none p = tt
     by (some c) p = inside c p (leb 1 (c .value)) (leb (c .value) mostOctets) refl refl
 
-pub allowed-is : (c : Count) → 1 ≤ c .value → c .value ≤ mostOctets → allowed (some c) ≡ some c
-unfolding allowed
-allowed-is c h g = rw (le-leb 1 (c .value) h, le-leb (c .value) mostOctets g)
-
-pub allowed-not : (c : Count) → mostOctets < c .value → allowed (some c) ≡ none
-unfolding allowed
-allowed-not c h = rw (le-leb 1 (c .value) (omega arith), lt-leb (c .value) mostOctets h)
-
 -- ---- a kept log by its first entry
 
 -- the entry at the front: its count, where the log has the element behind it

@@ -54,8 +54,8 @@ unfoldable pub nextIs : ℕ → List MandatoryRow → Bool
 nextIs c [] = false
 nextIs c (r ∷ rs) = eqb (r .code) c
 
--- a form, a fixed size of 1 to 255, a least whole length of 0 to 65,537 and of a half 0, a set of 1 to 255; a low half is
--- followed at once by a high half, and a high half follows one
+-- a form, a fixed size of 1 to 255, a least whole length of 0 to 65,537 and of a half 0, a set of 1 to 255; halves in
+-- pairs: right behind each low one a high one, and no high one elsewhere
 unfoldable pub goodMandatory : Bool → MandatoryRow → List MandatoryRow → Bool
 goodMandatory afterLow r rs =
     leb (r .code) 4 && ((not (eqb (r .code) 2) || (leb 1 (r .size) && leb (r .size) 255))

@@ -25,7 +25,7 @@ valueAt rows k = record { source = getD rows (3 * k) 0; start = getD rows (3 * k
 unfoldable pub present : Value → Bool
 present v = leb 1 (v .source)
 
--- the octets that a source names; a source over 2 is malformed and read as 2 here (goodValue refuses it first)
+-- the octets that a source names; a source over 2 is malformed, which every answer with a number says first, and read as 2
 unfoldable pub sourceOf : Octets → ℕ → List ℕ
 sourceOf o zero = []
 sourceOf o (suc zero) = o .received

@@ -17,7 +17,7 @@ use Rattle.definitions.specs.Length.{whole, unknownForm, unknownLength, require
 use Rattle.definitions.specs.Elements.{taken, takenBy, octetsOf, known, meet, ieiAt, stranger, strangerStep, Step as DefStep, next, cut, step, placeStep}
 use Rattle.definitions.proofs.Steps.{Frames, whole-frames, front-octets, front-first}
 use Rattle.logs.specs.declared.ie_order.Placed.{Placed}
-use Rattle.tables.specs.Numbers.{numbersAt, rowBy, Whole}
+use Rattle.tables.specs.Numbers.{numbersAt, rowSaid, Whole}
 use Rattle.message.specs.Seen.{setOf, seenOf, includingPlace}
 use Rattle.message.specs.Steps.{elementOf, stateOf, stepOf, metOf, Indexed, fitOf, cameKnown, cameStrange, stateAfter, foundAt}
 use Rattle.message.specs.declared.element.State.{State}
@@ -40,7 +40,7 @@ known-found t option s left k x n h g = rw (ne-eqb k 255 (λ e. omega arith), lt
 -- a row by the numbers at its place
 module _ (table : List ℕ) (w : Whole table) (k : ℕ) where
   abbrev stated : Row
-  stated = rowBy (numbersAt table k)
+  stated = rowSaid (numbersAt table k)
 
   abbrev row : Row
   row = rowAt (rowsOf table) k
@@ -108,7 +108,7 @@ module _ (table index : List ℕ) (i : Indexed table index) (start : ℕ) (optio
   abbrev pub Ways : ℕ → ℕ → ℕ → Came → Type 0
   Ways x iei k c =
       ((k ≡ 255) × (c ≡ cameStrange x left (unknownLength start left)))
-      ⊎ ((k ≡ 255 → ⊥) × (c ≡ cameKnown (rowBy (numbersAt table k)) iei option (bit k (setOf (s .seen))) (ltb k (s .highest)) left))
+      ⊎ ((k ≡ 255 → ⊥) × (c ≡ cameKnown (rowSaid (numbersAt table k)) iei option (bit k (setOf (s .seen))) (ltb k (s .highest)) left))
 
   module _ (x iei k : ℕ) (x-is : x ≡ getD part (s .at) 0) (iei-is : iei ≡ ieiOf x) (octet : iei < 256) (k-is : k ≡ getD index iei 0) where
     first-is : getD left 0 0 ≡ x

@@ -20,7 +20,7 @@ use Rattle.definitions.proofs.Lists.{over-none}
 use Rattle.definitions.proofs.RowLaws.{both}
 use Rattle.definitions.proofs.Steps.{Frames, whole-frames}
 use Rattle.logs.specs.declared.ie_order.Placed.{Placed}
-use Rattle.tables.specs.Numbers.{numbersAt, rowBy}
+use Rattle.tables.specs.Numbers.{numbersAt, rowSaid}
 use Rattle.message.specs.Seen.{setOf}
 use Rattle.message.specs.Steps.{placedFor, elementOf, stepOf, metOf, fitOf, cameKnown, cameStrange, stateAfter, foundAt}
 use Rattle.message.specs.Fills.{before, rowEntered, RowFits, keptOfFound, enteredAll, Ready}
@@ -179,7 +179,7 @@ module _ (table index : List ℕ) (start : ℕ) (option : Bool) (part rows₀ : 
         known =
             onward (next-of _ _
             (rw (row-same table (ready .indexed .whole) k left) at
-            (here-is (cameKnown (rowBy (numbersAt table k)) iei option (bit k (setOf (s .seen))) (ltb k (s .highest)) left) (inr (has-place, refl)))))
+            (here-is (cameKnown (rowSaid (numbersAt table k)) iei option (bit k (setOf (s .seen))) (ltb k (s .highest)) left) (inr (has-place, refl)))))
 
         taken-is : fitOf row left .taken ≡ true
         taken-is = judged-accepted option (bit k (setOf (s .seen))) (ltb k (s .highest)) (fitOf row left .taken) (known-accepted verdict iei (known .placed)) .1

@@ -24,7 +24,7 @@ ghost use Rattle.definitions.specs.Length.{header, within, whole, unknownLength
 ghost use Rattle.definitions.specs.Elements.{takenBy, judged, step};
 ghost use Rattle.logs.specs.Answers.{lengthOf};
 ghost use Rattle.tables.specs.Forms.{formAs};
-ghost use Rattle.tables.specs.Numbers.{rowBy};
+ghost use Rattle.tables.specs.Numbers.{rowSaid};
 ghost use Rattle.message.specs.Steps.{placedFor, fitOf, cameKnown, cameStrange, stateAfter, stepOf, metOf, Indexed};
 
 // No place: an IEI that no row lists.
@@ -122,8 +122,8 @@ fn fixed_length(n: usize, octets: &[u8]) -> Length
 
 // Whether a complete element is one that its row takes: at least the least length, and receivable.
 fn taken_by(row: Numbers, element: &[u8]) -> bool
-    requires { ⌜ Rattle.definitions.specs.Length.header (Rattle.definitions.specs.Rows.form (rowBy row)) ≤ length (now element) ⌝ }
-    ensures { λ r. ⌜ r ≡ takenBy (rowBy row) (now (element .entry)) ⌝ }
+    requires { ⌜ Rattle.definitions.specs.Length.header (Rattle.definitions.specs.Rows.form (rowSaid row)) ≤ length (now element) ⌝ }
+    ensures { λ r. ⌜ r ≡ takenBy (rowSaid row) (now (element .entry)) ⌝ }
 {
     if element.len() < row.least {
         return false;
@@ -176,7 +176,7 @@ fn higher(a: usize, b: usize) -> usize
 
 // By its row, an element from its first octet on: cut short, it takes the rest.
 fn fit_of(left: &[u8], row: Numbers) -> Fit
-    ensures { λ r. ⌜ r ≡ fitOf (rowBy row) (now (left .entry)) ⌝ }
+    ensures { λ r. ⌜ r ≡ fitOf (rowSaid row) (now (left .entry)) ⌝ }
 {
     match frame(form_of(row.code, row.size), left) {
         Length::Octets(n) => Fit {
@@ -199,7 +199,7 @@ pub(crate) fn came_known(
     again: bool,
     behind: bool,
 ) -> Came
-    ensures { λ r. ⌜ r ≡ cameKnown (rowBy row) iei option again behind (now (left .entry)) ⌝ }
+    ensures { λ r. ⌜ r ≡ cameKnown (rowSaid row) iei option again behind (now (left .entry)) ⌝ }
 {
     let fit = fit_of(left, row);
     Came::Is(fit.len, judge(option, again, behind, fit.taken, iei))

@@ -15,7 +15,7 @@ use Rattle.definitions.specs.Rows.{Row, rowOf, rowsOf, rowAt, ieis, firstIei, a
 use Rattle.definitions.proofs.RowLaws.{both}
 use Rattle.definitions.proofs.TableLaws.{past, row-at, iei-at, count-is, row-count}
 use Rattle.tables.specs.Marks.{inRange}
-use Rattle.tables.specs.Numbers.{numbersOf, noNumbers, numbersAt, rowBy, Whole}
+use Rattle.tables.specs.Numbers.{numbersOf, noNumbers, numbersAt, rowSaid, Whole}
 
 -- a good row lists an IEI and has a kind
 record Good (r : Row) : Type 0 where
@@ -76,6 +76,7 @@ module _ (table : List ℕ) (passes : firstBad (rowsOf table) ≡ none) where
 
   -- the numbers of a row, as the definitions have them
   record Same (k : ℕ) : Type 0 where
+    count : numbersAt table k .count ≡ rowAt t k .count
     first : numbersAt table k .first ≡ firstIei t k
     code : numbersAt table k .code ≡ rowAt t k .code
     size : numbersAt table k .size ≡ rowAt t k .size
@@ -92,6 +93,7 @@ module _ (table : List ℕ) (passes : firstBad (rowsOf table) ≡ none) where
           let w = lt-ltb k (length table / 9) (inside k h) in
           let c : 0 < getD table (9 * k) 0 = omega (arith, good k h .listed, count-is table k) in
           record {
+            count = rw (w, row-at table k);
             first = rw w (getD-drop (9 * k) table 1 0 ∙ sym (iei-at table k 0 c (lit< tt)));
             code = rw (w, row-at table k);
             size = rw (w, row-at table k);
@@ -102,11 +104,12 @@ module _ (table : List ℕ) (passes : firstBad (rowsOf table) ≡ none) where
           let h = ltb-false k (length t) e in
           let w = le-ltb k (length table / 9) (omega (arith, row-count table)) in
           let r = row-past t k h in
-          record { first = rw (w, r); code = rw (w, r); size = rw (w, r); least = rw (w, r); kinds = rw (w, r) }
+          record { count = rw (w, r); first = rw (w, r); code = rw (w, r); size = rw (w, r); least = rw (w, r); kinds = rw (w, r) }
 
   pub whole-rows : Whole table
   whole-rows =
       record {
+        count = λ k. same k .count;
         first = λ k. same k .first;
         code = λ k. same k .code;
         size = λ k. same k .size;
@@ -129,11 +132,11 @@ kindless r e = rw e (by (leb 1 (r .count)) (leb (r .count) 4) (leb (r .code) 3) 
     by true true true true false = refl
     by true true true true true = refl
 
-pub range-by : (table : List ℕ) (k : ℕ) → inRange (rowBy (numbersAt table k)) ≡ inRange (rowAt (rowsOf table) k)
+pub range-by : (table : List ℕ) (k : ℕ) → inRange (rowSaid (numbersAt table k)) ≡ inRange (rowAt (rowsOf table) k)
 unfolding numbersAt inRange rowOf
 range-by table k = by (ltb k (length table / 9)) refl
   where
-    by : (b : Bool) → ltb k (length table / 9) ≡ b → inRange (rowBy (pick b (numbersOf (drop (9 * k) table)) noNumbers)) ≡ inRange (rowAt (rowsOf table) k)
+    by : (b : Bool) → ltb k (length table / 9) ≡ b → inRange (rowSaid (pick b (numbersOf (drop (9 * k) table)) noNumbers)) ≡ inRange (rowAt (rowsOf table) k)
     by true e = rw (row-at table k)
     by false e =
         let h = ltb-false k (length table / 9) e in

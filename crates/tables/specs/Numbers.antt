@@ -19,11 +19,12 @@ unfoldable pub numbersAt : List ℕ → ℕ → Numbers
 numbersAt table k = pick (ltb k (length table / width)) (numbersOf (drop (width * k) table)) noNumbers
 
 -- a row with these numbers
-abbrev pub rowBy : Numbers → Row
-rowBy n = record { count = n .count; slots = n .first ∷ []; code = n .code; size = n .size; least = n .least; kinds = n .kinds }
+abbrev pub rowSaid : Numbers → Row
+rowSaid n = record { count = n .count; slots = n .first ∷ []; code = n .code; size = n .size; least = n .least; kinds = n .kinds }
 
 -- every row's numbers are those of the definitions
 pub record Whole (table : List ℕ) : Type 0 where
+  pub count : (k : ℕ) → numbersAt table k .count ≡ rowAt (rowsOf table) k .count
   pub first : (k : ℕ) → numbersAt table k .first ≡ firstIei (rowsOf table) k
   pub code : (k : ℕ) → numbersAt table k .code ≡ rowAt (rowsOf table) k .code
   pub size : (k : ℕ) → numbersAt table k .size ≡ rowAt (rowsOf table) k .size

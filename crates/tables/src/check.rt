@@ -166,7 +166,7 @@ fn plain_in_range(table: &[u32], row: usize) -> bool
     kinds <= 255
 }
 
-// A low half is followed at once by a high half, and a high half follows one.
+// Halves stand in pairs: right behind each low one a high one, and no high one elsewhere.
 fn is_paired(after: bool, code: u32, next: u32) -> bool
     ensures { λ r. ⌜ r ≡ paired after code next ⌝ }
 {

@@ -1,5 +1,6 @@
 // The rows of a lent table. Only this module knows the columns: nine numbers a row of optional elements, four a mandatory one.
-// A number that is not there counts as 0, so that each call has an answer for every table and every place.
+// A number that is not there counts as 0, so that each call has an answer for every table and every place; where all are taken
+// at once, an unfinished row has none.
 ghost use mathlib.Core.Path.{_≡_};
 ghost use Prim.Native.Nat.{_*_};
 ghost use lib.ListN.{length, getD, drop};
@@ -86,20 +87,6 @@ pub fn size_at(table: &[u32], place: usize) -> usize
     wide(number_at(table, place, 6))
 }
 
-// The least whole length, IEI counted.
-pub fn least_at(table: &[u32], place: usize) -> usize
-    ensures { λ r. ⌜ r ≡ rowAt (rowsOf (now (table .entry))) place .least ⌝ }
-{
-    wide(number_at(table, place, 7))
-}
-
-// The set of allowed kinds.
-pub fn kinds_at(table: &[u32], place: usize) -> u32
-    ensures { λ r. ⌜ r ≡ rowAt (rowsOf (now (table .entry))) place .kinds ⌝ }
-{
-    number_at(table, place, 8)
-}
-
 // The numbers of a row that the table has whole, at once; of any other each is 0.
 pub fn numbers_at(table: &[u32], place: usize) -> Numbers
     ensures { λ r. ⌜ r ≡ numbersAt (now (table .entry)) place ⌝ }
@@ -163,7 +150,7 @@ pub fn iei_count(table: &[u32], place: usize) -> usize
 }
 
 // One of the four numbers of a row for its IEIs, listed or not; 0 past the fourth.
-pub fn slot_at(table: &[u32], place: usize, number: usize) -> u32
+pub(crate) fn slot_at(table: &[u32], place: usize, number: usize) -> u32
     ensures { λ r. ⌜ r ≡ getD (rowAt (rowsOf (now (table .entry))) place .slots) number 0 ⌝ }
 {
     if number >= 4 {

@@ -11,7 +11,7 @@ use Rattle.definitions.specs.Elements.{taken, octetsOf}
 use Rattle.definitions.proofs.Steps.{Frames, whole-frames}
 use Rattle.logs.proofs.Laws.{length-is, length-cut}
 use Rattle.tables.specs.Forms.{formAs}
-use Rattle.tables.specs.Numbers.{rowBy}
+use Rattle.tables.specs.Numbers.{rowSaid}
 use Rattle.message.specs.Steps.{fitOf}
 use borrow.Author.Needs.{needs}
 use Rattle.message.proofs.element.fit_of.Statement.{statement}
@@ -27,12 +27,12 @@ enum-known-n : tie.Need-enum-known-n
 enum-known-n c = search needs
 
 -- the length that was found, and what is known of it
-whole-is : (c : tie.After-known-told) → whole (form (rowBy (c .before .before .before .before .before .before .args .row))) (c .before .before .before .before .before .before .args .left .now) ≡ some (c .before .n .given .0 .0)
+whole-is : (c : tie.After-known-told) → whole (form (rowSaid (c .before .before .before .before .before .before .args .row))) (c .before .before .before .before .before .before .args .left .now) ≡ some (c .before .n .given .0 .0)
 unfolding form
 whole-is c = let a = c .before .before .before .before .before .before .args in rw (c .before .before .before .before .form-of .ensures) at (length-is (whole (formAs (c .before .before .before .before .form-of .result)) (a .left .now)) (sym (c .before .n .given .1) ∙ c .before .before .before .frame .ensures))
 
-framed : (c : tie.After-known-told) → Frames (form (rowBy (c .before .before .before .before .before .before .args .row))) (c .before .before .before .before .before .before .args .left .now) (some (c .before .n .given .0 .0))
-framed c = let a = c .before .before .before .before .before .before .args in rw (whole-is c) at (whole-frames (form (rowBy (a .row))) (a .left .now))
+framed : (c : tie.After-known-told) → Frames (form (rowSaid (c .before .before .before .before .before .before .args .row))) (c .before .before .before .before .before .before .args .left .now) (some (c .before .n .given .0 .0))
+framed c = let a = c .before .before .before .before .before .before .args in rw (whole-is c) at (whole-frames (form (rowSaid (a .row))) (a .left .now))
 
 slice-aggregate-taken-by : tie.Need-slice-aggregate-taken-by
 slice-aggregate-taken-by c = let f = framed (c .before) in simp length-take (omega arith)
@@ -54,7 +54,7 @@ returns-2 : tie.Need-returns-2
 unfolding fitOf taken octetsOf form
 returns-2 c =
     let a = c .before .before .before .before .before .args in
-    let e : whole (form (rowBy (a .row))) (a .left .now) ≡ none = rw (c .before .before .before .form-of .ensures) at (length-cut (whole (formAs (c .before .before .before .form-of .result)) (a .left .now)) (sym (c .enum-told .given .1) ∙ c .before .before .frame .ensures)) in
+    let e : whole (form (rowSaid (a .row))) (a .left .now) ≡ none = rw (c .before .before .before .form-of .ensures) at (length-cut (whole (formAs (c .before .before .before .form-of .result)) (a .left .now)) (sym (c .enum-told .given .1) ∙ c .before .before .frame .ensures)) in
     rw e
 
 pub fit-of-spec : {M : Type 1} → statement M

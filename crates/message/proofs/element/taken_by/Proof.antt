@@ -5,14 +5,14 @@ use mathlib.Core.Path.{_≡_, ap, sym, _∙_}
 use Rattle.definitions.specs.Rows.{form}
 use Rattle.definitions.specs.Length.{header}
 use Rattle.definitions.proofs.Lists.{to-end}
-use Rattle.tables.specs.Numbers.{rowBy}
+use Rattle.tables.specs.Numbers.{rowSaid}
 use Rattle.message.proofs.Frames.{too-short, long-enough}
 use borrow.Author.Needs.{needs}
 use Rattle.message.proofs.element.taken_by.Statement.{statement}
 use Rattle.message.proofs.element.taken_by.Tie as tie
 
 returns : tie.Need-returns
-returns c = let a = c .before .before .before .args in sym (too-short (rowBy (a .row)) (a .element .now) (omega arith))
+returns c = let a = c .before .before .before .args in sym (too-short (rowSaid (a .row)) (a .element .now) (omega arith))
 
 form-of-requires : tie.Need-form-of-requires
 form-of-requires c κs = search needs
@@ -21,7 +21,7 @@ header-requires : tie.Need-header-requires
 header-requires c κs = search needs
 
 -- the octets before the value
-headed : (c : tie.After-header) → c .header .result ≡ header (form (rowBy (c .before .before .before .before .before .args .row)))
+headed : (c : tie.After-header) → c .header .result ≡ header (form (rowSaid (c .before .before .before .before .before .args .row)))
 unfolding form
 headed c = c .header .ensures ∙ ap header (c .before .form-of .ensures)
 
@@ -40,7 +40,7 @@ receivable-requires c κs = search needs
 returns-2 : tie.Need-returns-2
 returns-2 c =
     let a = c .before .before .before .before .before .before .before .args in
-    rw (long-enough (rowBy (a .row)) (a .element .now) (omega arith), ← headed (c .before .before)) (rw to-end at (c .receivable .ensures))
+    rw (long-enough (rowSaid (a .row)) (a .element .now) (omega arith), ← headed (c .before .before)) (rw to-end at (c .receivable .ensures))
 
 pub taken-by-spec : {M : Type 1} → statement M
 taken-by-spec =

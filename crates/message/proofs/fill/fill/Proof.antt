@@ -54,7 +54,7 @@ returns c =
     }
 
 fill-elements-requires : tie.Need-fill-elements-requires
-fill-elements-requires c κs = still-ready (c .before .before .before .before .before .before .before .before .before .before .before .before .before .before .pre) (search needs)
+fill-elements-requires c κs = still-ready (rw (c .before .before .before .if1 .left) at (c .before .before .before .before .before .before .before .before .before .before .before .before .before .before .pre)) (search needs)
 
 same-length-2 : tie.Need-same-length-2
 same-length-2 c = search needs
@@ -66,7 +66,7 @@ same-length-4 : tie.Need-same-length-4
 same-length-4 c = search needs
 
 returns-2 : tie.Need-returns-2
-returns-2 c = let f = c .before .before .before .before .before .before .fill-elements .ensures in record { rows-are = f .rows-are ∙ cleared (c .before .before .before .before .before .before .before .before .before .before .before .before .before) _ (c .before .before .before .before .before .before .before .before .before .before .before .before .before .clear-rows .ensures); kept-is = f .kept-is; order-is = f .order-is }
+returns-2 c = let f = c .before .before .before .before .before .before .fill-elements .ensures in record { rows-are = f .rows-are ∙ cleared (c .before .before .before .before .before .before .before .before .before .before .before .before .before) _ (c .before .before .before .before .before .before .before .before .before .before .before .before .before .clear-rows .ensures); kept-is = f .kept-is; order-is = rw (c .before .before .before .before .before .before .before .before .before .before .if1 .left) (f .order-is) }
 
 pub fill-spec : {M : Type 1} → statement M
 fill-spec =

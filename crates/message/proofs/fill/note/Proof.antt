@@ -1,19 +1,16 @@
--- `note` lends the rest of the log for the entry, unless there is none.
+-- `note` lends the rest of the log for the entry.
 -- There is room for it, so it is written whole.
-use Prim.Native.Nat.{ℕ, _+_, _-_, _≤_}
+use Prim.Native.Nat.{ℕ, _+_, _-_}
 use native.Mathlib.Omega.{arith}
-use mathlib.Core.Path.{_≡_, ap, sym, _∙_}
+use mathlib.Core.Path.{ap}
 use lib.ListN.{length, take, drop, length-take, length-drop}
 use Rattle.definitions.specs.Logs.{orderEntry}
-use Rattle.definitions.proofs.Lists.{lent-over, over-none}
+use Rattle.definitions.proofs.Lists.{lent-over}
 use Rattle.logs.specs.Order.{placedAs}
 use Rattle.logs.proofs.Entries.{if-room}
 use borrow.Author.Needs.{needs}
 use Rattle.message.proofs.fill.note.Statement.{statement}
 use Rattle.message.proofs.fill.note.Tie as tie
-
-returns : tie.Need-returns
-returns c = rw (c .if1 .taken) (omega arith, sym (over-none (c .before .before .args .used) (c .before .before .args .order .now)))
 
 sub-put-placed : tie.Need-sub-put-placed
 sub-put-placed c = search needs
@@ -31,24 +28,22 @@ entry-len-requires : tie.Need-entry-len-requires
 entry-len-requires c κs = search needs
 
 add-result : tie.Need-add-result
-add-result c = let h = rw (c .before .before .before .before .before .if1 .left) at (c .before .before .before .before .before .before .before .pre) in omega (arith, c .entry-len .ensures)
+add-result c = search needs
 
 same-length : tie.Need-same-length
 same-length c = search needs
 
-returns-2 : tie.Need-returns-2
-returns-2 c =
-    let a = c .before .before .before .before .before .before .before .args in
+returns : tie.Need-returns
+returns c =
+    let a = c .before .before .before .before .before .before .args in
     let e = orderEntry (placedAs (a .placed)) in
     let d = take (length (a .order .now) - a .used) (drop (a .used) (a .order .now)) in
-    let h : a .used + length e ≤ length (a .order .now) = rw (c .before .before .before .before .before .if1 .left) at (c .before .before .before .before .before .before .before .pre) in
-    rw (c .before .before .before .before .before .if1 .left) (ap (λ (n : ℕ). a .used + n) (c .entry-len .ensures), rw (c .before .before .before .put-placed .ensures, if-room e d (simp (length-take, length-drop) (omega arith))) (lent-over (a .used) e (a .order .now) (omega arith)))
+    (ap (λ (n : ℕ). a .used + n) (c .entry-len .ensures), rw (c .before .before .before .put-placed .ensures, if-room e d (simp (length-take, length-drop) (omega arith))) (lent-over (a .used) e (a .order .now) (omega arith)))
 
 pub note-spec : {M : Type 1} → statement M
 note-spec =
     tie.close
     (tie.spec
-    returns
     sub-put-placed
     part-put-placed-start
     part-put-placed-end
@@ -56,4 +51,4 @@ note-spec =
     entry-len-requires
     add-result
     same-length
-    returns-2)
+    returns)
