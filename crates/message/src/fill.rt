@@ -23,14 +23,15 @@ use tables::rows::places;
 ghost use mathlib.Core.Path.{_≡_};
 ghost use Prim.Native.Nat.{_+_, _*_, _≤_, _<_};
 ghost use lib.ListN.{length, replicate};
-ghost use mathlib.Core.Bool.{true};
+ghost use mathlib.Core.Bool.{true, false};
 ghost use mathlib.Core.List.{[], _∷_};
 ghost use Rattle.definitions.specs.Basic.{over, overAt};
 ghost use Rattle.definitions.specs.Rows.{rowsOf};
-ghost use Rattle.definitions.specs.Logs.{keptEntry};
+ghost use Rattle.definitions.specs.Logs.{keptEntry, orderEntry};
 ghost use Rattle.definitions.specs.Elements.{elementsOf, parted};
+ghost use Rattle.logs.specs.Order.{placedAs};
 ghost use Rattle.tables.specs.Numbers.{Whole};
-ghost use Rattle.message.specs.Fills.{RowFits, rowEntered, keptOfFound, noteBy, enteredAll, Ready, Filled, Written};
+ghost use Rattle.message.specs.Fills.{RowFits, rowEntered, keptOfFound, enteredAll, Ready, Filled, Written};
 
 // No number in the first n.
 fn clear_rows(rows: &mut [u32], n: usize)
@@ -97,32 +98,28 @@ fn keep_octets(element: &[u8], kept: &mut [u8], used: usize) -> usize
     used + put_raw(&mut kept[used..], element)
 }
 
-// How an element came, into the rest of the order log, unless the table says it all; the octets then used.
-fn note(placed: Placed, plain: bool, order: &mut [u8], used: usize) -> usize
-    requires { ⌜ used + length (noteBy plain placed) ≤ length (now order) ⌝ }
-    ensures { λ r. ⌜ (r ≡ used + length (noteBy plain placed)) × (now (order .exit) ≡ overAt used (noteBy plain placed) (now (order .entry))) ⌝ }
+// How an element came, into the rest of the order log; the octets then used.
+fn note(placed: Placed, order: &mut [u8], used: usize) -> usize
+    requires { ⌜ used + length (orderEntry (placedAs placed)) ≤ length (now order) ⌝ }
+    ensures { λ r. ⌜ (r ≡ used + length (orderEntry (placedAs placed))) × (now (order .exit) ≡ overAt used (orderEntry (placedAs placed)) (now (order .entry))) ⌝ }
 {
-    if plain {
-        return used;
-    }
     put_placed(&mut order[used..], placed);
     used + entry_len(placed)
 }
 
-// Every element of a part that decodes, into rows and logs that have room.
+// Every element of a part that decodes and of which the table does not say all, into rows and logs that have room.
 fn fill_elements(
     octets: &[u8],
     table: &[u32],
     index: &[u8; 256],
     tlve_start: u8,
     option: bool,
-    plain: bool,
     rows: &mut [u32],
     kept: &mut [u8],
     order: &mut [u8],
 )
-    requires { ⌜ Ready (now table) (now index) «tlve_start» option plain (now octets) (now rows) (now kept) (now order) ⌝ }
-    ensures { λ r. ⌜ Filled (rowsOf (now (table .entry))) plain (elementsOf (parted (rowsOf (now (table .entry))) «tlve_start» option (now (octets .entry)))) (now (rows .entry)) (now (kept .entry)) (now (order .entry)) (now (rows .exit)) (now (kept .exit)) (now (order .exit)) ⌝ }
+    requires { ⌜ Ready (now table) (now index) «tlve_start» option false (now octets) (now rows) (now kept) (now order) ⌝ }
+    ensures { λ r. ⌜ Filled (rowsOf (now (table .entry))) false (elementsOf (parted (rowsOf (now (table .entry))) «tlve_start» option (now (octets .entry)))) (now (rows .entry)) (now (kept .entry)) (now (order .entry)) (now (rows .exit)) (now (kept .exit)) (now (order .exit)) ⌝ }
 {
     let mut state = State {
         at: 0,
@@ -160,7 +157,7 @@ fn fill_elements(
                 };
                 enter_row(rows, table, e);
                 k = keep(octets, e, kept, k);
-                o = note(placed, plain, order, o);
+                o = note(placed, order, o);
                 state = after(state, place, len);
             }
             Came::Cut => {
@@ -221,15 +218,5 @@ pub(crate) fn fill(
         fill_plain(octets, table, index, tlve_start, option, rows);
         return;
     }
-    fill_elements(
-        octets,
-        table,
-        index,
-        tlve_start,
-        option,
-        plain,
-        rows,
-        kept,
-        order,
-    );
+    fill_elements(octets, table, index, tlve_start, option, rows, kept, order);
 }
