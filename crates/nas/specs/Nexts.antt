@@ -6,7 +6,6 @@ use lib.ListN.{getD}
 use Rattle.definitions.specs.Basic.{Answer, answer}
 use Rattle.order.specs.declared.Placed.{Placed}
 use Rattle.order.specs.declared.IgnoredIeReason.{IgnoredIeReason}
-use Rattle.elements.specs.declared.element.Element.{Element}
 use Rattle.elements.specs.declared.element.State.{State}
 use Rattle.elements.specs.declared.next.NextElement.{NextElement}
 use Rattle.nas.specs.Says.{put, Says}
