@@ -3,9 +3,9 @@
 use std::fmt::{self, Display, Formatter};
 use std::time::{Duration, Instant};
 
+use crate::interface::{Lent, Side, Values};
 use crate::judge::Room;
 use crate::rows::{MANDATORY_WIDTH, WIDTH};
-use crate::sides::{Lent, Side, Values};
 
 #[derive(Clone)]
 pub enum Call {

@@ -4,8 +4,10 @@ use std::collections::BTreeMap;
 use std::rc::Rc;
 
 use crate::calls::Call;
+use crate::cores::ByRust;
+use crate::interface::Side;
 use crate::random::Random;
-use crate::sides::{ByRust, Judged, Side};
+use crate::sides::Judged;
 
 /// How many differences are printed; the others are counted.
 const PRINTED: u64 = 5;

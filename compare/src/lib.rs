@@ -2,6 +2,7 @@
 
 pub mod calls;
 mod common;
+pub mod cores;
 mod drive_logs;
 mod drive_pieces;
 mod drive_reading;
@@ -10,6 +11,7 @@ pub mod examples;
 pub mod gen_logs;
 pub mod gen_parts;
 pub mod gen_tables;
+pub mod interface;
 pub mod judge;
 #[cfg(feature = "linked")]
 mod linked;

@@ -1,6 +1,6 @@
 //! Our side: the C interface of libnas.a.
 
-use crate::sides::{Lent, Side, Values};
+use crate::interface::{Lent, Side, Values};
 
 unsafe extern "C" {
     fn nas_generic_ie_length(octets: *const u8, octets_len: usize, start: u8, values: *mut Values) -> u32;

@@ -4,8 +4,9 @@ use std::process::ExitCode;
 use std::time::Instant;
 
 use compare::driver::Driver;
+use compare::interface::Side;
 use compare::rows::numbered_or_exit;
-use compare::sides::{Side, ours};
+use compare::sides::ours;
 
 const USAGE: &str = "usage: compare [--times N] [--seed N] [--model]
   --times N  N times as many random cases (1)

@@ -5,10 +5,12 @@ use std::process::ExitCode;
 use std::time::{Duration, Instant};
 
 use compare::calls::Call;
+use compare::cores::ByRust;
+use compare::interface::{Lent, Side};
 use compare::judge::{Model, Room};
 use compare::oracle::{self, Logs, Table};
 use compare::rows::{Form, PLACE, Row, START, numbered_or_exit};
-use compare::sides::{ByRust, Judged, Lent, Side, ours};
+use compare::sides::{Judged, ours};
 
 /// An input: a part and the number of the table that it is read by.
 struct Input {

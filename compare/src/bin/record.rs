@@ -7,13 +7,14 @@ use std::process::ExitCode;
 use std::rc::Rc;
 
 use compare::calls::{Call, Outcome};
+use compare::cores::ByRust;
 use compare::examples;
 use compare::gen_parts::{self, Size};
 use compare::gen_tables;
 use compare::judge::{Model, Room, first_bad};
 use compare::random::Random;
 use compare::rows::{PLACE, START, WIDTH, numbered_or_exit};
-use compare::sides::{ByRust, Judged};
+use compare::sides::Judged;
 
 /// How many cases the list has, and how many of one kind at most.
 const CASES: usize = 3_000;

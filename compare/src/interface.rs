@@ -1,0 +1,28 @@
+//! The C interface as a trait: each call returns document 01's number and puts its values into `values`, whose other places it
+//! leaves as they were.
+
+pub type Values = [u64; 4];
+
+/// Memory lent to reading.
+pub struct Lent<'a> {
+    pub rows: &'a mut [u32],
+    pub kept: &'a mut [u8],
+    pub order: &'a mut [u8],
+}
+
+pub trait Side {
+    fn name(&self) -> &'static str;
+    fn generic_ie_length(&self, octets: &[u8], start: u8, values: &mut Values) -> u32;
+    fn check_table(&self, table: &[u32], values: &mut Values) -> u32;
+    fn check_mandatory_table(&self, table: &[u32], values: &mut Values) -> u32;
+    fn iei_index(&self, table: &[u32], index: &mut [u8; 256]) -> u32;
+    fn place_of(&self, index: &[u8; 256], iei: u8, values: &mut Values) -> u32;
+    fn kept_push(&self, log: &mut [u8], used: usize, iei: u8, data: &[u8], values: &mut Values) -> u32;
+    fn kept_count(&self, log: &[u8], used: usize, values: &mut Values) -> u32;
+    fn kept_get(&self, log: &[u8], used: usize, k: usize, values: &mut Values) -> u32;
+    fn kept_clear(&self, log: &[u8], used: usize, values: &mut Values) -> u32;
+    fn order_push(&self, log: &mut [u8], used: usize, entry: u8, iei: u8, values: &mut Values) -> u32;
+    fn order_get(&self, log: &[u8], used: usize, k: usize, values: &mut Values) -> u32;
+    fn read(&self, part: &[u8], table: &[u32], start: u8, option: u8, lent: Lent<'_>, values: &mut Values) -> u32;
+    fn read_by(&self, number: u32, part: &[u8], option: u8, lent: Lent<'_>, values: &mut Values) -> u32;
+}
