@@ -9,7 +9,7 @@ use crate::rows::{MANDATORY_WIDTH, WIDTH};
 
 #[derive(Clone)]
 pub enum Call {
-    Length { octets: Vec<u8>, start: u8 },
+    Length { octets: Vec<u8>, tlve_start: u8 },
     CheckTable { table: Vec<u32> },
     CheckMandatory { table: Vec<u32> },
     Index { table: Vec<u32> },
@@ -20,11 +20,11 @@ pub enum Call {
     KeptClear { log: Vec<u8>, used: usize },
     OrderPush { log: Vec<u8>, used: usize, entry: u8, iei: u8 },
     OrderGet { log: Vec<u8>, used: usize, k: usize },
-    Read { part: Vec<u8>, table: Vec<u32>, start: u8, option: u8, room: Room },
+    Read { part: Vec<u8>, table: Vec<u32>, tlve_start: u8, option: u8, room: Room },
     ReadBy { number: u32, part: Vec<u8>, option: u8, room: Room },
 }
 
-/// The number, the values with those places that were left, and all lent memory.
+/// The number, how many values there are, the values with those places that were left, and all lent memory.
 #[derive(Clone, PartialEq, Eq)]
 pub struct Outcome {
     pub number: u32,
@@ -51,11 +51,11 @@ impl Call {
     }
 
     pub fn on(&self, side: &dyn Side) -> Outcome {
-        let mut values = [LEFT; 4];
+        let mut values = [LEFT; 5];
         let mut rows = Vec::new();
         let mut logs = [Vec::new(), Vec::new()];
         let number = match self {
-            Call::Length { octets, start } => side.generic_ie_length(octets, *start, &mut values),
+            Call::Length { octets, tlve_start } => side.generic_ie_length(octets, *tlve_start, &mut values),
             Call::CheckTable { table } => side.check_table(table, &mut values),
             Call::CheckMandatory { table } => side.check_mandatory_table(table, &mut values),
             Call::Index { table } => {
@@ -83,8 +83,8 @@ impl Call {
                 let [kept, order] = &mut logs;
                 let lent = Lent { rows: &mut rows, kept, order };
                 match self {
-                    Call::Read { part, table, start, option, .. } => {
-                        side.read(part, table, *start, *option, lent, &mut values)
+                    Call::Read { part, table, tlve_start, option, .. } => {
+                        side.read(part, table, *tlve_start, *option, lent, &mut values)
                     }
                     Call::ReadBy { number, part, option, .. } => {
                         side.read_by(*number, part, *option, lent, &mut values)
@@ -186,7 +186,9 @@ fn listed(table: &[u32], width: usize) -> String {
 impl Display for Call {
     fn fmt(&self, f: &mut Formatter<'_>) -> fmt::Result {
         match self {
-            Call::Length { octets, start } => write!(f, "generic_ie_length {} start {start:02x}", hex(octets)),
+            Call::Length { octets, tlve_start } => {
+                write!(f, "generic_ie_length {} start {tlve_start:02x}", hex(octets))
+            }
             Call::CheckTable { table } => write!(f, "check_table {}", listed(table, WIDTH)),
             Call::CheckMandatory { table } => write!(f, "check_mandatory_table {}", listed(table, MANDATORY_WIDTH)),
             Call::Index { table } => write!(f, "iei_index {}", listed(table, WIDTH)),
@@ -201,9 +203,9 @@ impl Display for Call {
                 write!(f, "order_push {} used {used} entry {entry} iei {iei:02x}", hex(log))
             }
             Call::OrderGet { log, used, k } => write!(f, "order_get {} used {used} k {k}", hex(log)),
-            Call::Read { part, table, start, option, room } => write!(
+            Call::Read { part, table, tlve_start, option, room } => write!(
                 f,
-                "read {} start {start:02x} option {option} {room:?} table {}",
+                "read {} start {tlve_start:02x} option {option} {room:?} table {}",
                 hex(part),
                 listed(table, WIDTH)
             ),
@@ -211,6 +213,13 @@ impl Display for Call {
                 write!(f, "read_by {number} {} option {option} {room:?}", hex(part))
             }
         }
+    }
+}
+
+impl Outcome {
+    /// The values that it was told to have.
+    pub fn said(&self) -> &[u64] {
+        self.values[1..].get(..self.values[0] as usize).unwrap_or(&[])
     }
 }
 

@@ -6,7 +6,7 @@ use crate::oracle;
 /// What the core of each call is answered by, where no check refuses.
 pub trait Core {
     const NAME: &'static str;
-    fn length(octets: &[u8], start: u8) -> Option<usize>;
+    fn length(octets: &[u8], tlve_start: u8) -> Option<usize>;
     fn place_of(index: &[u8; 256], iei: u8) -> Option<usize>;
     fn kept_push(log: &[u8], iei: u8, data: &[u8]) -> Vec<u8>;
     fn kept_count(log: &[u8]) -> usize;
@@ -19,7 +19,7 @@ pub trait Core {
     type Table;
     fn table(table: &[u32]) -> Self::Table;
     fn index(table: &Self::Table) -> [u8; 256];
-    fn read(table: &Self::Table, part: &[u8], start: u8, option: bool) -> Result<Reading, Cut>;
+    fn read(table: &Self::Table, part: &[u8], tlve_start: u8, option: bool) -> Result<Reading, Cut>;
 }
 
 /// Document 01's checks by the judge, the answer of a call that passes them by the Rust: what is right.
@@ -28,8 +28,8 @@ pub struct ByRust;
 impl Core for ByRust {
     const NAME: &'static str = "the Rust";
 
-    fn length(octets: &[u8], start: u8) -> Option<usize> {
-        oracle::generic_ie_length(octets, start)
+    fn length(octets: &[u8], tlve_start: u8) -> Option<usize> {
+        oracle::generic_ie_length(octets, tlve_start)
     }
     fn place_of(index: &[u8; 256], iei: u8) -> Option<usize> {
         oracle::place_of(index, iei)
@@ -60,8 +60,8 @@ impl Core for ByRust {
     fn index(table: &Self::Table) -> [u8; 256] {
         *table.index()
     }
-    fn read(table: &Self::Table, part: &[u8], start: u8, option: bool) -> Result<Reading, Cut> {
-        oracle::read(table, part, start, option)
+    fn read(table: &Self::Table, part: &[u8], tlve_start: u8, option: bool) -> Result<Reading, Cut> {
+        oracle::read(table, part, tlve_start, option)
     }
 }
 
@@ -71,8 +71,8 @@ pub struct ByModel;
 impl Core for ByModel {
     const NAME: &'static str = "the model";
 
-    fn length(octets: &[u8], start: u8) -> Option<usize> {
-        judge::unknown_length(octets, start)
+    fn length(octets: &[u8], tlve_start: u8) -> Option<usize> {
+        judge::unknown_length(octets, tlve_start)
     }
     fn place_of(index: &[u8; 256], iei: u8) -> Option<usize> {
         Some(usize::from(index[usize::from(iei)])).filter(|&place| place != 255)
@@ -103,7 +103,7 @@ impl Core for ByModel {
     fn index(table: &Self::Table) -> [u8; 256] {
         table.index()
     }
-    fn read(table: &Self::Table, part: &[u8], start: u8, option: bool) -> Result<Reading, Cut> {
-        table.read(part, start, option)
+    fn read(table: &Self::Table, part: &[u8], tlve_start: u8, option: bool) -> Result<Reading, Cut> {
+        table.read(part, tlve_start, option)
     }
 }

@@ -18,8 +18,8 @@ impl Driver {
         for (part, option, order, kept) in examples::READ {
             let call = Call::ReadBy { number: 0, part: part.to_vec(), option: u8::from(option), room: PLENTY };
             let right = call.on(&self.right);
-            let used = (right.number, right.values[0] as usize, right.values[1] as usize);
-            let as_written = used == (0, kept.len(), order.len())
+            let as_written = right.number == 0
+                && *right.said() == [kept.len() as u64, order.len() as u64]
                 && right.logs[0][..kept.len()] == *kept
                 && right.logs[1][..order.len()] == *order;
             self.expect(as_written, &call);
@@ -27,7 +27,7 @@ impl Driver {
             self.check(Call::Read {
                 part: part.to_vec(),
                 table: table.clone(),
-                start: START,
+                tlve_start: START,
                 option: u8::from(option),
                 room: PLENTY,
             });
@@ -35,7 +35,7 @@ impl Driver {
         for (part, values) in examples::CUT {
             let call = Call::ReadBy { number: 0, part: part.to_vec(), option: 0, room: PLENTY };
             let right = call.on(&self.right);
-            self.expect(right.number == 1 && right.values[..3] == values, &call);
+            self.expect(right.number == 1 && *right.said() == values, &call);
             self.check(call);
         }
     }
@@ -72,11 +72,11 @@ impl Driver {
             &[1, 0, 9, 9],
             &[0, 2, 9, 9],
         ];
-        self.check(Call::Length { octets: vec![], start: START });
+        self.check(Call::Length { octets: vec![], tlve_start: START });
         for first in 0..=255 {
             for start in 0..=255 {
                 for tail in tails {
-                    self.check(Call::Length { octets: [&[first], tail].concat(), start });
+                    self.check(Call::Length { octets: [&[first], tail].concat(), tlve_start: start });
                 }
             }
         }
@@ -89,7 +89,7 @@ impl Driver {
                 [&[first], &(length as u16).to_be_bytes()[usize::from(length < 256 && random.once_in(2))..]].concat();
             let count = (length + random.below(5)).saturating_sub(2);
             let octets = [field, vec![random.octet(); count]].concat();
-            self.check(Call::Length { octets, start });
+            self.check(Call::Length { octets, tlve_start: start });
         }
     }
 

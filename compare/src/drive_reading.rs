@@ -12,7 +12,7 @@ impl Driver {
     fn read(&mut self, model: &Model, table: &[u32], part: Vec<u8>, start: u8, option: u8) {
         let need = gen_parts::needed(model, model.read(&part, start, option != 0).ok().as_ref());
         let room = gen_parts::room(&mut self.random, need);
-        self.check(Call::Read { part, table: table.to_vec(), start, option, room });
+        self.check(Call::Read { part, table: table.to_vec(), tlve_start: start, option, room });
     }
 
     /// The same by number.
@@ -57,7 +57,7 @@ impl Driver {
             };
             let rows = self.random.below(3 * (1 + bad.len() / WIDTH));
             let room = Room { rows, kept: self.random.below(40), order: self.random.below(40) };
-            self.check(Call::Read { part, table: bad, start, option: 0, room });
+            self.check(Call::Read { part, table: bad, tlve_start: start, option: 0, room });
         }
     }
 

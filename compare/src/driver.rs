@@ -44,7 +44,7 @@ impl Driver {
         self.cases += 1;
         let right = call.on(&self.right);
         if call.is_reading() {
-            let which = if right.number == 2 { right.values[0] } else { 0 };
+            let which = if right.number == 2 { right.said()[0] } else { 0 };
             *self.readings.entry((right.number, which)).or_default() += 1;
         }
         if call.on(&*self.ours) != right {

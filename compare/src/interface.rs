@@ -1,7 +1,7 @@
-//! The C interface as a trait: each call returns document 01's number and puts its values into `values`, whose other places it
-//! leaves as they were.
+//! The C interface as a trait: each call returns document 01's number and puts its values into `values`, in front of them how
+//! many there are; the places behind them it leaves as they were.
 
-pub type Values = [u64; 4];
+pub type Values = [u64; 5];
 
 /// Memory lent to reading.
 pub struct Lent<'a> {
@@ -12,7 +12,7 @@ pub struct Lent<'a> {
 
 pub trait Side {
     fn name(&self) -> &'static str;
-    fn generic_ie_length(&self, octets: &[u8], start: u8, values: &mut Values) -> u32;
+    fn generic_ie_length(&self, octets: &[u8], tlve_start: u8, values: &mut Values) -> u32;
     fn check_table(&self, table: &[u32], values: &mut Values) -> u32;
     fn check_mandatory_table(&self, table: &[u32], values: &mut Values) -> u32;
     fn iei_index(&self, table: &[u32], index: &mut [u8; 256]) -> u32;
@@ -23,6 +23,6 @@ pub trait Side {
     fn kept_clear(&self, log: &[u8], used: usize, values: &mut Values) -> u32;
     fn order_push(&self, log: &mut [u8], used: usize, entry: u8, iei: u8, values: &mut Values) -> u32;
     fn order_get(&self, log: &[u8], used: usize, k: usize, values: &mut Values) -> u32;
-    fn read(&self, part: &[u8], table: &[u32], start: u8, option: u8, lent: Lent<'_>, values: &mut Values) -> u32;
+    fn read(&self, part: &[u8], table: &[u32], tlve_start: u8, option: u8, lent: Lent<'_>, values: &mut Values) -> u32;
     fn read_by(&self, number: u32, part: &[u8], option: u8, lent: Lent<'_>, values: &mut Values) -> u32;
 }

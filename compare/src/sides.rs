@@ -36,7 +36,8 @@ impl<C: Core> Judged<C> {
 }
 
 fn give(said: Answer, values: &mut Values) -> u32 {
-    values[..said.values.len()].copy_from_slice(&said.values);
+    values[0] = said.values.len() as u64;
+    values[1..=said.values.len()].copy_from_slice(&said.values);
     said.number
 }
 
@@ -61,8 +62,8 @@ impl<C: Core> Side for Judged<C> {
         C::NAME
     }
 
-    fn generic_ie_length(&self, octets: &[u8], start: u8, values: &mut Values) -> u32 {
-        give(C::length(octets, start).map_or(answer(1, &[]), |length| answer(0, &[length])), values)
+    fn generic_ie_length(&self, octets: &[u8], tlve_start: u8, values: &mut Values) -> u32 {
+        give(C::length(octets, tlve_start).map_or(answer(1, &[]), |length| answer(0, &[length])), values)
     }
 
     fn check_table(&self, table: &[u32], values: &mut Values) -> u32 {
@@ -123,9 +124,9 @@ impl<C: Core> Side for Judged<C> {
         asked(said, values)
     }
 
-    fn read(&self, part: &[u8], table: &[u32], start: u8, option: u8, lent: Lent<'_>, values: &mut Values) -> u32 {
+    fn read(&self, part: &[u8], table: &[u32], tlve_start: u8, option: u8, lent: Lent<'_>, values: &mut Values) -> u32 {
         let room = Room { rows: lent.rows.len(), kept: lent.kept.len(), order: lent.order.len() };
-        let read = judge::reading(table, part, room, || C::read(&self.table(table), part, start, option != 0));
+        let read = judge::reading(table, part, room, || C::read(&self.table(table), part, tlve_start, option != 0));
         let said = match read {
             Ok(reading) => {
                 lent.rows[..reading.rows.len()].copy_from_slice(&reading.rows);

@@ -174,7 +174,7 @@ impl<'a> Bench<'a> {
         let room = Room { rows: PLACE * table.places(), kept: 131_070, order: 131_070 };
         let call = Call::ReadBy { number: input.number as u32, part: input.part.clone(), option: 0, room };
         let right = call.on(right);
-        let room = Room { rows: room.rows, kept: right.values[0] as usize, order: right.values[1] as usize };
+        let room = Room { rows: room.rows, kept: right.said()[0] as usize, order: right.said()[1] as usize };
         (call.on(ours) == right).then_some(Self { ours, input, lent_table, table, room })
     }
 
@@ -185,7 +185,7 @@ impl<'a> Bench<'a> {
         // No log is lent empty: to clear one of no octets is slow on some machines.
         let mut kept = vec![0; self.room.kept.max(1)];
         let mut order = vec![0; self.room.order.max(1)];
-        let mut values = [0; 4];
+        let mut values = [0; 5];
         let mut ours = || {
             if way == Way::New {
                 rows.fill(0);
