@@ -1,11 +1,10 @@
-//! A call with its inputs, what it leaves on a side, and how it is made smaller where two sides differ.
+//! A call with its inputs, and what it leaves on a side.
 
 use std::fmt::{self, Display, Formatter};
-use std::time::{Duration, Instant};
 
-use crate::interface::{Lent, Side, Values};
+use crate::interface::{Edited, Lent, Message, Side, Used, Values, Writing};
 use crate::judge::Room;
-use crate::rows::{MANDATORY_WIDTH, WIDTH};
+use crate::rows::{MANDATORY_WIDTH, PLACE, WIDTH};
 
 #[derive(Clone)]
 pub enum Call {
@@ -22,6 +21,84 @@ pub enum Call {
     OrderGet { log: Vec<u8>, used: usize, k: usize },
     Read { part: Vec<u8>, table: Vec<u32>, tlve_start: u8, option: u8, room: Room },
     ReadBy { number: u32, part: Vec<u8>, option: u8, room: Room },
+    Write { table: Vec<u32>, filled: Filled, output: usize },
+    WriteBy { number: u32, filled: Filled, output: usize },
+    Set { table: Vec<u32>, places: Places, place: usize, value: Vec<u8> },
+    Clear { table: Vec<u32>, places: Places, place: usize },
+}
+
+/// Lent octets and how many of them are used.
+#[derive(Clone, Default)]
+pub struct Octets {
+    pub octets: Vec<u8>,
+    pub used: usize,
+}
+
+impl Octets {
+    /// All of them are used.
+    pub fn all(octets: Vec<u8>) -> Self {
+        Self { used: octets.len(), octets }
+    }
+
+    fn lent(&self) -> Used<'_> {
+        Used { octets: &self.octets, used: self.used }
+    }
+}
+
+/// Place rows with the octets of their values.
+#[derive(Clone, Default)]
+pub struct Places {
+    pub rows: Vec<u32>,
+    pub received: Vec<u8>,
+    pub set: Octets,
+}
+
+/// What is written.
+#[derive(Clone, Default)]
+pub struct Filled {
+    pub places: Places,
+    pub kept: Octets,
+    pub order: Octets,
+}
+
+impl Filled {
+    pub fn message(&self) -> Message<'_> {
+        Message {
+            rows: &self.places.rows,
+            received: &self.places.received,
+            set: self.places.set.lent(),
+            kept: self.kept.lent(),
+            order: self.order.lent(),
+        }
+    }
+}
+
+/// The families of calls that are counted apart.
+#[derive(Clone, Copy, PartialEq, Eq, PartialOrd, Ord)]
+pub enum Family {
+    Pieces,
+    Reading,
+    Writing,
+    Editing,
+}
+
+impl Family {
+    pub fn name(self) -> &'static str {
+        match self {
+            Family::Pieces => "pieces",
+            Family::Reading => "readings",
+            Family::Writing => "writings",
+            Family::Editing => "edits",
+        }
+    }
+
+    /// Whether a side has these calls.
+    pub fn on(self, side: &dyn Side) -> bool {
+        match self {
+            Family::Pieces | Family::Reading => true,
+            Family::Writing | Family::Editing => side.writing().is_some(),
+        }
+    }
 }
 
 /// The number, how many values there are, the values with those places that were left, and all lent memory.
@@ -31,6 +108,10 @@ pub struct Outcome {
     pub values: Values,
     pub rows: Vec<u32>,
     pub logs: [Vec<u8>; 2],
+}
+
+fn writing(side: &dyn Side) -> &dyn Writing {
+    side.writing().expect("a call is made on sides that have it")
 }
 
 /// What stands in `values` before a call.
@@ -46,8 +127,13 @@ fn lent_octets(count: usize) -> Vec<u8> {
 }
 
 impl Call {
-    pub fn is_reading(&self) -> bool {
-        matches!(self, Call::Read { .. } | Call::ReadBy { .. })
+    pub fn family(&self) -> Family {
+        match self {
+            Call::Read { .. } | Call::ReadBy { .. } => Family::Reading,
+            Call::Write { .. } | Call::WriteBy { .. } => Family::Writing,
+            Call::Set { .. } | Call::Clear { .. } => Family::Editing,
+            _ => Family::Pieces,
+        }
     }
 
     pub fn on(&self, side: &dyn Side) -> Outcome {
@@ -92,80 +178,32 @@ impl Call {
                     _ => unreachable!("only readings have room"),
                 }
             }
+            Call::Write { table, filled, output } => {
+                logs[0] = lent_octets(*output);
+                writing(side).write(table, filled.message(), &mut logs[0], &mut values)
+            }
+            Call::WriteBy { number, filled, output } => {
+                logs[0] = lent_octets(*output);
+                writing(side).write_by(*number, filled.message(), &mut logs[0], &mut values)
+            }
+            Call::Set { table, places, place, value } => {
+                rows = places.rows.clone();
+                logs[0] = places.set.octets.clone();
+                let edited = Edited {
+                    rows: &mut rows,
+                    received: &places.received,
+                    set: &mut logs[0],
+                    used: places.set.used,
+                    place: *place,
+                };
+                writing(side).set(table, edited, value, &mut values)
+            }
+            Call::Clear { table, places, place } => {
+                rows = places.rows.clone();
+                writing(side).clear(table, &mut rows, &places.received, places.set.lent(), *place, &mut values)
+            }
         };
         Outcome { number, values, rows, logs }
-    }
-
-    /// The lists that can be made shorter: how many units each has.
-    fn lengths(&self) -> Vec<usize> {
-        match self {
-            Call::Length { octets, .. } => vec![octets.len()],
-            Call::CheckTable { table } | Call::Index { table } => vec![table.len().div_ceil(WIDTH)],
-            Call::CheckMandatory { table } => vec![table.len().div_ceil(MANDATORY_WIDTH)],
-            Call::PlaceOf { .. } => vec![],
-            Call::KeptPush { log, data, .. } => vec![data.len(), log.len()],
-            Call::KeptCount { log, .. } | Call::KeptGet { log, .. } | Call::KeptClear { log, .. } => vec![log.len()],
-            Call::OrderPush { log, .. } | Call::OrderGet { log, .. } => vec![log.len()],
-            Call::Read { part, table, .. } => vec![part.len(), table.len().div_ceil(WIDTH)],
-            Call::ReadBy { part, .. } => vec![part.len()],
-        }
-    }
-
-    /// The call without `count` units of a list, from `at` on.
-    fn without(&self, list: usize, at: usize, count: usize) -> Call {
-        fn drop_units<T>(items: &mut Vec<T>, width: usize, at: usize, count: usize) {
-            let end = (width * (at + count)).min(items.len());
-            items.drain(width * at..end);
-        }
-        let mut call = self.clone();
-        match &mut call {
-            Call::Length { octets, .. } => drop_units(octets, 1, at, count),
-            Call::CheckTable { table } | Call::Index { table } => drop_units(table, WIDTH, at, count),
-            Call::CheckMandatory { table } => drop_units(table, MANDATORY_WIDTH, at, count),
-            Call::PlaceOf { .. } => {}
-            Call::KeptPush { data, .. } if list == 0 => drop_units(data, 1, at, count),
-            Call::KeptPush { log, used, .. }
-            | Call::KeptCount { log, used }
-            | Call::KeptGet { log, used, .. }
-            | Call::KeptClear { log, used }
-            | Call::OrderPush { log, used, .. }
-            | Call::OrderGet { log, used, .. } => {
-                drop_units(log, 1, at, count);
-                if at + count <= *used {
-                    *used -= count;
-                }
-            }
-            Call::Read { table, .. } if list == 1 => drop_units(table, WIDTH, at, count),
-            Call::Read { part, .. } | Call::ReadBy { part, .. } => drop_units(part, 1, at, count),
-        }
-        call
-    }
-
-    /// The smallest call found, in a few seconds, for which `differs` still holds: units are dropped as long as it does.
-    pub fn smallest(&self, differs: &dyn Fn(&Call) -> bool) -> Call {
-        let mut call = self.clone();
-        let end = Instant::now() + Duration::from_secs(3);
-        let mut smaller = true;
-        while smaller {
-            smaller = false;
-            for list in 0..call.lengths().len() {
-                let mut count = call.lengths()[list].div_ceil(2);
-                while count > 0 {
-                    let mut at = 0;
-                    while at + count <= call.lengths()[list] && Instant::now() < end {
-                        let without = call.without(list, at, count);
-                        if differs(&without) {
-                            call = without;
-                            smaller = true;
-                        } else {
-                            at += count;
-                        }
-                    }
-                    count /= 2;
-                }
-            }
-        }
-        call
     }
 }
 
@@ -212,7 +250,35 @@ impl Display for Call {
             Call::ReadBy { number, part, option, room } => {
                 write!(f, "read_by {number} {} option {option} {room:?}", hex(part))
             }
+            Call::Write { table, filled, output } => {
+                write!(f, "write {filled} output {output} table {}", listed(table, WIDTH))
+            }
+            Call::WriteBy { number, filled, output } => write!(f, "write_by {number} {filled} output {output}"),
+            Call::Set { table, places, place, value } => {
+                write!(f, "set place {place} to {} in {places} table {}", hex(value), listed(table, WIDTH))
+            }
+            Call::Clear { table, places, place } => {
+                write!(f, "clear place {place} in {places} table {}", listed(table, WIDTH))
+            }
         }
+    }
+}
+
+impl Display for Octets {
+    fn fmt(&self, f: &mut Formatter<'_>) -> fmt::Result {
+        write!(f, "{} used {}", hex(&self.octets), self.used)
+    }
+}
+
+impl Display for Places {
+    fn fmt(&self, f: &mut Formatter<'_>) -> fmt::Result {
+        write!(f, "rows {} received {} set {}", listed(&self.rows, PLACE), hex(&self.received), self.set)
+    }
+}
+
+impl Display for Filled {
+    fn fmt(&self, f: &mut Formatter<'_>) -> fmt::Result {
+        write!(f, "{} kept {} order {}", self.places, self.kept, self.order)
     }
 }
 

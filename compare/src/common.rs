@@ -2,8 +2,10 @@
 //! Each shim is listed in README.md.
 
 pub(crate) use codec::{NasError, Reader, Result, too_short};
-pub(crate) use message_macros::{IeiIndex, IeiTable, decode_optional_ies, iei_index, place};
-pub(crate) use unknown_ie::{IeOrder, IgnoredIeReason, Placed, UnknownIes, generic_ie_length};
+pub(crate) use message_macros::{
+    IeiIndex, IeiTable, decode_optional_ies, encode_optional_ies, iei_index, nas_message, place,
+};
+pub(crate) use unknown_ie::{IeOrder, IgnoredIeReason, Placed, UnknownIe, UnknownIes, generic_ie_length};
 
 #[allow(dead_code, clippy::box_collection)]
 mod codec {
@@ -43,6 +45,8 @@ mod message_macros {
     use crate::common::{IeOrder, IgnoredIeReason, NasError, Placed, Reader, Result, UnknownIes, generic_ie_length};
 
     include!(concat!(env!("OUT_DIR"), "/message_macros.rs"));
+
+    pub(crate) use nas_message;
 
     pub(crate) fn place(index: &IeiIndex, iei: u8) -> Option<usize> {
         place_of(index, iei)

@@ -1,7 +1,9 @@
 //! What a call that passes document 01's checks is answered by: the Rust, or the judge.
 
 use crate::judge::{self, Cut, Model, Reading};
+use crate::judge_writing::Filled;
 use crate::oracle;
+use crate::oracle_writing;
 
 /// What the core of each call is answered by, where no check refuses.
 pub trait Core {
@@ -20,6 +22,7 @@ pub trait Core {
     fn table(table: &[u32]) -> Self::Table;
     fn index(table: &Self::Table) -> [u8; 256];
     fn read(table: &Self::Table, part: &[u8], tlve_start: u8, option: bool) -> Result<Reading, Cut>;
+    fn write(table: &Self::Table, filled: &Filled<'_>) -> Vec<u8>;
 }
 
 /// Document 01's checks by the judge, the answer of a call that passes them by the Rust: what is right.
@@ -63,6 +66,9 @@ impl Core for ByRust {
     fn read(table: &Self::Table, part: &[u8], tlve_start: u8, option: bool) -> Result<Reading, Cut> {
         oracle::read(table, part, tlve_start, option)
     }
+    fn write(table: &Self::Table, filled: &Filled<'_>) -> Vec<u8> {
+        oracle_writing::write(table, filled)
+    }
 }
 
 /// Everything by the judge: stands for our side where libnas.a is not linked.
@@ -105,5 +111,8 @@ impl Core for ByModel {
     }
     fn read(table: &Self::Table, part: &[u8], tlve_start: u8, option: bool) -> Result<Reading, Cut> {
         table.read(part, tlve_start, option)
+    }
+    fn write(table: &Self::Table, filled: &Filled<'_>) -> Vec<u8> {
+        table.write(filled)
     }
 }

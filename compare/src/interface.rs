@@ -1,4 +1,4 @@
-//! The C interface as a trait: each call returns document 01's number and puts its values into `values`, in front of them how
+//! The C interface as traits: each call returns document 01's number and puts its values into `values`, in front of them how
 //! many there are; the places behind them it leaves as they were.
 
 pub type Values = [u64; 5];
@@ -10,6 +10,24 @@ pub struct Lent<'a> {
     pub order: &'a mut [u8],
 }
 
+/// Lent octets and how many of them are used.
+#[derive(Clone, Copy)]
+pub struct Used<'a> {
+    pub octets: &'a [u8],
+    pub used: usize,
+}
+
+/// What is written: place rows with the octets of their values, and both logs.
+#[derive(Clone, Copy)]
+pub struct Message<'a> {
+    pub rows: &'a [u32],
+    pub received: &'a [u8],
+    pub set: Used<'a>,
+    pub kept: Used<'a>,
+    pub order: Used<'a>,
+}
+
+/// The small pieces and reading, which every library has, and the families that came later.
 pub trait Side {
     fn name(&self) -> &'static str;
     fn generic_ie_length(&self, octets: &[u8], tlve_start: u8, values: &mut Values) -> u32;
@@ -25,4 +43,32 @@ pub trait Side {
     fn order_get(&self, log: &[u8], used: usize, k: usize, values: &mut Values) -> u32;
     fn read(&self, part: &[u8], table: &[u32], tlve_start: u8, option: u8, lent: Lent<'_>, values: &mut Values) -> u32;
     fn read_by(&self, number: u32, part: &[u8], option: u8, lent: Lent<'_>, values: &mut Values) -> u32;
+
+    /// None where the library has no such calls yet.
+    fn writing(&self) -> Option<&dyn Writing>;
+}
+
+/// Writing an optional part, and edits of its places.
+pub trait Writing {
+    fn write(&self, table: &[u32], message: Message<'_>, output: &mut [u8], values: &mut Values) -> u32;
+    fn write_by(&self, number: u32, message: Message<'_>, output: &mut [u8], values: &mut Values) -> u32;
+    fn set(&self, table: &[u32], edited: Edited<'_>, value: &[u8], values: &mut Values) -> u32;
+    fn clear(
+        &self,
+        table: &[u32],
+        rows: &mut [u32],
+        received: &[u8],
+        set: Used<'_>,
+        place: usize,
+        values: &mut Values,
+    ) -> u32;
+}
+
+/// Memory lent to setting, and the place that is set.
+pub struct Edited<'a> {
+    pub rows: &'a mut [u32],
+    pub received: &'a [u8],
+    pub set: &'a mut [u8],
+    pub used: usize,
+    pub place: usize,
 }

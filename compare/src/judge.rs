@@ -361,7 +361,7 @@ pub enum Log {
 }
 
 impl Log {
-    fn malformed(self, log: &[u8]) -> Option<Answer> {
+    pub fn malformed(self, log: &[u8]) -> Option<Answer> {
         match self {
             Log::Kept => kept_list(log).is_none().then(|| answer(11, &[2])),
             Log::Order => order_list(log).is_none().then(|| answer(11, &[1])),

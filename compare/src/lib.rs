@@ -6,17 +6,24 @@ pub mod cores;
 mod drive_logs;
 mod drive_pieces;
 mod drive_reading;
+mod drive_writing;
 pub mod driver;
 pub mod examples;
 pub mod gen_logs;
 pub mod gen_parts;
 pub mod gen_tables;
+pub mod gen_writing;
 pub mod interface;
 pub mod judge;
+pub mod judge_writing;
 #[cfg(feature = "linked")]
 mod linked;
+#[cfg(feature = "linked-writing")]
+mod linked_writing;
 pub mod oracle;
+pub mod oracle_writing;
 pub mod random;
 pub mod replay;
 pub mod rows;
 pub mod sides;
+mod smaller;

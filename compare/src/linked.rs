@@ -1,6 +1,6 @@
 //! Our side: the C interface of libnas.a.
 
-use crate::interface::{Lent, Side, Values};
+use crate::interface::{Lent, Side, Values, Writing};
 
 unsafe extern "C" {
     fn nas_generic_ie_length(octets: *const u8, octets_len: usize, tlve_start: u8, values: *mut Values) -> u32;
@@ -140,5 +140,12 @@ impl Side for Linked {
                 values,
             )
         }
+    }
+
+    fn writing(&self) -> Option<&dyn Writing> {
+        #[cfg(feature = "linked-writing")]
+        return Some(self);
+        #[cfg(not(feature = "linked-writing"))]
+        None
     }
 }

@@ -4,36 +4,50 @@ use std::cell::RefCell;
 use std::rc::Rc;
 
 use crate::cores::{ByModel, Core};
-use crate::interface::{Lent, Side, Values};
-use crate::judge::{self, Answer, Log, Room, answer};
-use crate::rows::START;
+use crate::interface::{Edited, Lent, Message, Side, Used, Values, Writing};
+use crate::judge::{self, Answer, Log, Model, Room, answer};
+use crate::judge_writing::{self, Edit};
+use crate::rows::{PLACE, START};
 
-/// The numbers of a table, and what a core makes of them.
-type Made<C> = (Vec<u32>, Rc<<C as Core>::Table>);
+/// The numbers of a table that passes the check, what a core makes of them, and what the judge does.
+struct Made<C: Core> {
+    numbers: Vec<u32>,
+    table: C::Table,
+    model: Rc<Model>,
+}
 
-/// A side that is made of document 01's checks and a core. The last table is kept, as it is read by many times.
+impl<C: Core> Made<C> {
+    fn new(numbers: &[u32]) -> Self {
+        Self { numbers: numbers.to_vec(), table: C::table(numbers), model: Rc::new(Model::new(numbers)) }
+    }
+}
+
+/// A side that is made of document 01's checks and a core. The numbered tables are kept, and the last other one, as it is read
+/// by many times.
 pub struct Judged<C: Core> {
-    numbered: Rc<Vec<Vec<u32>>>,
-    last: RefCell<Option<Made<C>>>,
+    numbered: Vec<Rc<Made<C>>>,
+    last: RefCell<Option<Rc<Made<C>>>>,
 }
 
 impl<C: Core> Judged<C> {
-    pub fn new(numbered: Rc<Vec<Vec<u32>>>) -> Self {
-        Self { numbered, last: RefCell::new(None) }
+    pub fn new(numbered: &[Vec<u32>]) -> Self {
+        Self { numbered: numbered.iter().map(|table| Rc::new(Made::new(table))).collect(), last: RefCell::new(None) }
     }
 
-    fn table(&self, table: &[u32]) -> Rc<C::Table> {
+    fn made(&self, table: &[u32]) -> Rc<Made<C>> {
         let mut last = self.last.borrow_mut();
-        match &*last {
-            Some((numbers, made)) if numbers == table => made.clone(),
-            _ => {
-                let made = Rc::new(C::table(table));
-                *last = Some((table.to_vec(), made.clone()));
-                made
-            }
-        }
+        let kept = self.numbered.iter().chain(&*last).find(|made| made.numbers == table).cloned();
+        kept.unwrap_or_else(|| last.insert(Rc::new(Made::new(table))).clone())
+    }
+
+    /// The numbers of a table that has a number, or refusal 5.
+    fn numbers(&self, number: u32) -> Result<&[u32], Answer> {
+        self.numbered.get(number as usize).map(|made| &made.numbers[..]).ok_or_else(|| answer(5, &[]))
     }
 }
+
+/// More octets than any output has that is lent here. More are not written, but counted by the judge.
+const MOST_WRITTEN: u64 = 1 << 24;
 
 fn give(said: Answer, values: &mut Values) -> u32 {
     values[0] = said.values.len() as u64;
@@ -75,7 +89,7 @@ impl<C: Core> Side for Judged<C> {
     }
 
     fn iei_index(&self, table: &[u32], index: &mut [u8; 256]) -> u32 {
-        *index = C::index(&self.table(table));
+        *index = C::index(&self.made(table).table);
         0
     }
 
@@ -126,7 +140,8 @@ impl<C: Core> Side for Judged<C> {
 
     fn read(&self, part: &[u8], table: &[u32], tlve_start: u8, option: u8, lent: Lent<'_>, values: &mut Values) -> u32 {
         let room = Room { rows: lent.rows.len(), kept: lent.kept.len(), order: lent.order.len() };
-        let read = judge::reading(table, part, room, || C::read(&self.table(table), part, tlve_start, option != 0));
+        let read =
+            judge::reading(table, part, room, || C::read(&self.made(table).table, part, tlve_start, option != 0));
         let said = match read {
             Ok(reading) => {
                 lent.rows[..reading.rows.len()].copy_from_slice(&reading.rows);
@@ -140,15 +155,79 @@ impl<C: Core> Side for Judged<C> {
     }
 
     fn read_by(&self, number: u32, part: &[u8], option: u8, lent: Lent<'_>, values: &mut Values) -> u32 {
-        match self.numbered.get(number as usize) {
-            Some(table) => self.read(part, table, START, option, lent, values),
-            None => give(answer(5, &[]), values),
+        match self.numbers(number) {
+            Ok(table) => self.read(part, table, START, option, lent, values),
+            Err(refusal) => give(refusal, values),
         }
+    }
+
+    fn writing(&self) -> Option<&dyn Writing> {
+        Some(self)
+    }
+}
+
+impl<C: Core> Writing for Judged<C> {
+    fn write(&self, table: &[u32], message: Message<'_>, output: &mut [u8], values: &mut Values) -> u32 {
+        let filled = judge_writing::writing(table, || self.made(table).model.clone(), message);
+        let said = filled.and_then(|filled| {
+            let made = self.made(table);
+            let needed = made.model.needed(&filled);
+            if needed > MOST_WRITTEN {
+                return Err(answer(12, &[needed as usize]));
+            }
+            put(output, &C::write(&made.table, &filled))
+        });
+        asked(said, values)
+    }
+
+    fn write_by(&self, number: u32, message: Message<'_>, output: &mut [u8], values: &mut Values) -> u32 {
+        match self.numbers(number) {
+            Ok(table) => self.write(table, message, output, values),
+            Err(refusal) => give(refusal, values),
+        }
+    }
+
+    fn set(&self, table: &[u32], edited: Edited<'_>, value: &[u8], values: &mut Values) -> u32 {
+        let Edited { rows, received, set, used, place } = edited;
+        let edit = Edit { table, rows, received, set: Used { octets: set, used }, place };
+        let said = judge_writing::setting(edit, value).map(|after| {
+            rows[PLACE * place..][..PLACE].copy_from_slice(&[2, used as u32, value.len() as u32]);
+            set[used..after].copy_from_slice(value);
+            vec![after]
+        });
+        asked(said, values)
+    }
+
+    fn clear(
+        &self,
+        table: &[u32],
+        rows: &mut [u32],
+        received: &[u8],
+        set: Used<'_>,
+        place: usize,
+        values: &mut Values,
+    ) -> u32 {
+        let said = judge_writing::clearing(Edit { table, rows, received, set, place }).map(|()| {
+            rows[PLACE * place..][..PLACE].fill(0);
+            vec![]
+        });
+        asked(said, values)
+    }
+}
+
+/// Octets into an output: how many they are, or 12.
+fn put(output: &mut [u8], octets: &[u8]) -> Result<Vec<usize>, Answer> {
+    match output.get_mut(..octets.len()) {
+        Some(front) => {
+            front.copy_from_slice(octets);
+            Ok(vec![octets.len()])
+        }
+        None => Err(answer(12, &[octets.len()])),
     }
 }
 
 /// Our side: libnas.a where it is linked and the model is not asked for.
-pub fn ours(numbered: Rc<Vec<Vec<u32>>>, model: bool) -> Box<dyn Side> {
+pub fn ours(numbered: &[Vec<u32>], model: bool) -> Box<dyn Side> {
     linked().filter(|_| !model).unwrap_or_else(|| Box::new(Judged::<ByModel>::new(numbered)))
 }
 

@@ -40,8 +40,8 @@ const ROUNDS: usize = 6;
 fn main() -> ExitCode {
     let tables = numbered_or_exit();
     let model = std::env::args().any(|argument| argument == "--model");
-    let ours = ours(tables.clone(), model);
-    let right = Judged::<ByRust>::new(tables.clone());
+    let ours = ours(&tables, model);
+    let right = Judged::<ByRust>::new(&tables);
     println!("{} and the Rust, nanoseconds a call; a ratio below 1 means that ours is faster", ours.name());
     println!(
         "reused: no buffer is cleared between calls; cleared: ours are zeroed and the Rust's made anew for each call"

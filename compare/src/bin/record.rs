@@ -42,7 +42,7 @@ type Kind = (u8, bool, u32, u64, BTreeSet<String>, [i8; 3]);
 fn main() -> ExitCode {
     let tables = numbered_or_exit();
     let mut recorder = Recorder {
-        right: Judged::new(tables.clone()),
+        right: Judged::new(&tables),
         tables,
         random: Random::new(1),
         list: Vec::new(),
