@@ -12,8 +12,14 @@ const TAKEN: [(&str, &[&str]); 3] = [
         &[
             "enum NasError",
             "struct IeName",
+            "impl IeName",
             "enum IeFault",
             "type Result",
+            "struct DecodeOptions",
+            "impl DecodeOptions",
+            "struct Reading",
+            "impl<'b> Reading<'b>",
+            "type Faults",
             "fn too_short",
             "trait Reader",
             "impl<'a> Reader<'a> for &'a [u8]",
@@ -42,6 +48,7 @@ const TAKEN: [(&str, &[&str]); 3] = [
             "const NO_IE",
             "const fn iei_index",
             "fn place_of",
+            "fn decode_mandatory_ie",
             "fn kept_so_far",
             "type DecodeKnown",
             "fn decode_optional_ies",
@@ -51,7 +58,7 @@ const TAKEN: [(&str, &[&str]); 3] = [
 ];
 
 /// The arms that are taken from the macro `nas_message`: how an element is written behind its IEI, and the half octets.
-const ARMS: [&str; 1] = ["(@encode_opt "];
+const ARMS: [&str; 3] = ["(@encode_opt ", "(@encode_mand ", "(@decode_mand "];
 
 fn main() {
     let root = PathBuf::from(env::var("CARGO_MANIFEST_DIR").unwrap()).join("..");

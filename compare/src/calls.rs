@@ -2,7 +2,7 @@
 
 use std::fmt::{self, Display, Formatter};
 
-use crate::interface::{Edited, Lent, Message, Side, Used, Values, Writing};
+use crate::interface::{Edited, Lent, Mandatory, Message, Side, Used, Values, Writing};
 use crate::judge::Room;
 use crate::rows::{MANDATORY_WIDTH, PLACE, WIDTH};
 
@@ -25,6 +25,10 @@ pub enum Call {
     WriteBy { number: u32, filled: Filled, output: usize },
     Set { table: Vec<u32>, places: Places, place: usize, value: Vec<u8> },
     Clear { table: Vec<u32>, places: Places, place: usize },
+    ReadMandatory { part: Vec<u8>, table: Vec<u32>, lenient: u8, rows: usize },
+    ReadMandatoryBy { number: u32, part: Vec<u8>, lenient: u8, rows: usize },
+    WriteMandatory { table: Vec<u32>, places: Places, output: usize },
+    WriteMandatoryBy { number: u32, places: Places, output: usize },
 }
 
 /// Lent octets and how many of them are used.
@@ -40,7 +44,7 @@ impl Octets {
         Self { used: octets.len(), octets }
     }
 
-    fn lent(&self) -> Used<'_> {
+    pub fn lent(&self) -> Used<'_> {
         Used { octets: &self.octets, used: self.used }
     }
 }
@@ -80,6 +84,8 @@ pub enum Family {
     Reading,
     Writing,
     Editing,
+    ReadingRows,
+    WritingRows,
 }
 
 impl Family {
@@ -89,6 +95,8 @@ impl Family {
             Family::Reading => "readings",
             Family::Writing => "writings",
             Family::Editing => "edits",
+            Family::ReadingRows => "readings of mandatory rows",
+            Family::WritingRows => "writings of mandatory rows",
         }
     }
 
@@ -97,6 +105,7 @@ impl Family {
         match self {
             Family::Pieces | Family::Reading => true,
             Family::Writing | Family::Editing => side.writing().is_some(),
+            Family::ReadingRows | Family::WritingRows => side.mandatory().is_some(),
         }
     }
 }
@@ -107,11 +116,16 @@ pub struct Outcome {
     pub number: u32,
     pub values: Values,
     pub rows: Vec<u32>,
+    pub notes: Vec<u32>,
     pub logs: [Vec<u8>; 2],
 }
 
 fn writing(side: &dyn Side) -> &dyn Writing {
     side.writing().expect("a call is made on sides that have it")
+}
+
+fn mandatory(side: &dyn Side) -> &dyn Mandatory {
+    side.mandatory().expect("a call is made on sides that have it")
 }
 
 /// What stands in `values` before a call.
@@ -132,6 +146,8 @@ impl Call {
             Call::Read { .. } | Call::ReadBy { .. } => Family::Reading,
             Call::Write { .. } | Call::WriteBy { .. } => Family::Writing,
             Call::Set { .. } | Call::Clear { .. } => Family::Editing,
+            Call::ReadMandatory { .. } | Call::ReadMandatoryBy { .. } => Family::ReadingRows,
+            Call::WriteMandatory { .. } | Call::WriteMandatoryBy { .. } => Family::WritingRows,
             _ => Family::Pieces,
         }
     }
@@ -139,6 +155,7 @@ impl Call {
     pub fn on(&self, side: &dyn Side) -> Outcome {
         let mut values = [LEFT; 5];
         let mut rows = Vec::new();
+        let mut notes = Vec::new();
         let mut logs = [Vec::new(), Vec::new()];
         let number = match self {
             Call::Length { octets, tlve_start } => side.generic_ie_length(octets, *tlve_start, &mut values),
@@ -202,8 +219,33 @@ impl Call {
                 rows = places.rows.clone();
                 writing(side).clear(table, &mut rows, &places.received, places.set.lent(), *place, &mut values)
             }
+            Call::ReadMandatory { rows: room, .. } | Call::ReadMandatoryBy { rows: room, .. } => {
+                rows = lent_rows(*room);
+                let mut lent = [0xa5a5_a5a5; 64];
+                let number = match self {
+                    Call::ReadMandatory { part, table, lenient, .. } => {
+                        mandatory(side).read_mandatory(part, table, *lenient, &mut rows, &mut lent, &mut values)
+                    }
+                    Call::ReadMandatoryBy { number, part, lenient, .. } => {
+                        mandatory(side).read_mandatory_by(*number, part, *lenient, &mut rows, &mut lent, &mut values)
+                    }
+                    _ => unreachable!("only readings of mandatory rows have notes"),
+                };
+                notes = lent.to_vec();
+                number
+            }
+            Call::WriteMandatory { table, places, output } => {
+                logs[0] = lent_octets(*output);
+                let Places { rows, received, set } = places;
+                mandatory(side).write_mandatory(table, rows, received, set.lent(), &mut logs[0], &mut values)
+            }
+            Call::WriteMandatoryBy { number, places, output } => {
+                logs[0] = lent_octets(*output);
+                let Places { rows, received, set } = places;
+                mandatory(side).write_mandatory_by(*number, rows, received, set.lent(), &mut logs[0], &mut values)
+            }
         };
-        Outcome { number, values, rows, logs }
+        Outcome { number, values, rows, notes, logs }
     }
 }
 
@@ -260,6 +302,21 @@ impl Display for Call {
             Call::Clear { table, places, place } => {
                 write!(f, "clear place {place} in {places} table {}", listed(table, WIDTH))
             }
+            Call::ReadMandatory { part, table, lenient, rows } => write!(
+                f,
+                "read_mandatory {} lenient {lenient} rows {rows} table {}",
+                hex(part),
+                listed(table, MANDATORY_WIDTH)
+            ),
+            Call::ReadMandatoryBy { number, part, lenient, rows } => {
+                write!(f, "read_mandatory_by {number} {} lenient {lenient} rows {rows}", hex(part))
+            }
+            Call::WriteMandatory { table, places, output } => {
+                write!(f, "write_mandatory {places} output {output} table {}", listed(table, MANDATORY_WIDTH))
+            }
+            Call::WriteMandatoryBy { number, places, output } => {
+                write!(f, "write_mandatory_by {number} {places} output {output}")
+            }
         }
     }
 }
@@ -298,6 +355,8 @@ impl Display for Outcome {
                 value => write!(f, " {value}")?,
             }
         }
-        write!(f, " ) rows {:?} logs {} {}", self.rows, hex(&self.logs[0]), hex(&self.logs[1]))
+        let last = self.notes.iter().rposition(|&note| note != 0xa5a5_a5a5).map_or(0, |last| last + 1);
+        write!(f, " ) rows {:?} notes {:?} ", self.rows, &self.notes[..last])?;
+        write!(f, "logs {} {}", hex(&self.logs[0]), hex(&self.logs[1]))
     }
 }

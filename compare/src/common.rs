@@ -1,9 +1,9 @@
 //! The Rust, taken in at build time, under the names by which its files call one another, and the shims that it leans on.
 //! Each shim is listed in README.md.
 
-pub(crate) use codec::{NasError, Reader, Result, too_short};
+pub(crate) use codec::{Faults, IeFault, IeName, NasError, Reader, Reading, Result, too_short};
 pub(crate) use message_macros::{
-    IeiIndex, IeiTable, decode_optional_ies, encode_optional_ies, iei_index, nas_message, place,
+    IeiIndex, IeiTable, decode_mandatory_ie, decode_optional_ies, encode_optional_ies, iei_index, nas_message, place,
 };
 pub(crate) use unknown_ie::{IeOrder, IgnoredIeReason, Placed, UnknownIe, UnknownIes, generic_ie_length};
 
@@ -42,7 +42,9 @@ mod unknown_ie {
 }
 
 mod message_macros {
-    use crate::common::{IeOrder, IgnoredIeReason, NasError, Placed, Reader, Result, UnknownIes, generic_ie_length};
+    use crate::common::{
+        IeFault, IeOrder, IgnoredIeReason, NasError, Placed, Reader, Result, UnknownIes, generic_ie_length,
+    };
 
     include!(concat!(env!("OUT_DIR"), "/message_macros.rs"));
 

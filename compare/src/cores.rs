@@ -1,9 +1,12 @@
 //! What a call that passes document 01's checks is answered by: the Rust, or the judge.
 
 use crate::judge::{self, Cut, Model, Reading};
+use crate::judge_mandatory::{self, FilledRows, RowsRead};
 use crate::judge_writing::Filled;
 use crate::oracle;
+use crate::oracle_mandatory;
 use crate::oracle_writing;
+use crate::rows::MandatoryRow;
 
 /// What the core of each call is answered by, where no check refuses.
 pub trait Core {
@@ -23,6 +26,8 @@ pub trait Core {
     fn index(table: &Self::Table) -> [u8; 256];
     fn read(table: &Self::Table, part: &[u8], tlve_start: u8, option: bool) -> Result<Reading, Cut>;
     fn write(table: &Self::Table, filled: &Filled<'_>) -> Vec<u8>;
+    fn read_rows(rows: &[MandatoryRow], part: &[u8], lenient: bool) -> RowsRead;
+    fn write_rows(filled: &FilledRows<'_>) -> Vec<u8>;
 }
 
 /// Document 01's checks by the judge, the answer of a call that passes them by the Rust: what is right.
@@ -69,6 +74,12 @@ impl Core for ByRust {
     fn write(table: &Self::Table, filled: &Filled<'_>) -> Vec<u8> {
         oracle_writing::write(table, filled)
     }
+    fn read_rows(rows: &[MandatoryRow], part: &[u8], lenient: bool) -> RowsRead {
+        oracle_mandatory::read_rows(rows, part, lenient)
+    }
+    fn write_rows(filled: &FilledRows<'_>) -> Vec<u8> {
+        oracle_mandatory::write_rows(filled)
+    }
 }
 
 /// Everything by the judge: stands for our side where libnas.a is not linked.
@@ -114,5 +125,11 @@ impl Core for ByModel {
     }
     fn write(table: &Self::Table, filled: &Filled<'_>) -> Vec<u8> {
         table.write(filled)
+    }
+    fn read_rows(rows: &[MandatoryRow], part: &[u8], lenient: bool) -> RowsRead {
+        judge_mandatory::read_rows(rows, part, lenient)
+    }
+    fn write_rows(filled: &FilledRows<'_>) -> Vec<u8> {
+        judge_mandatory::write_rows(filled)
     }
 }

@@ -14,7 +14,7 @@ const PLENTY: Room = Room { rows: 3 * 40, kept: 400, order: 400 };
 impl Driver {
     /// The examples, as document 01 prints them: of the Rust, and then of both sides.
     pub fn examples(&mut self) {
-        let table = self.tables[0].clone();
+        let table = self.tables.optional[0].clone();
         for (part, option, order, kept) in examples::READ {
             let call = Call::ReadBy { number: 0, part: part.to_vec(), option: u8::from(option), room: PLENTY };
             let right = call.on(&self.right);
@@ -95,7 +95,7 @@ impl Driver {
 
     /// Both table checks, on tables that pass and on damaged ones.
     pub fn checks(&mut self) {
-        for table in self.tables.clone().iter() {
+        for table in self.tables.optional.clone().iter() {
             self.check(Call::CheckTable { table: table.clone() });
         }
         for _ in 0..150_000 * self.times {
@@ -119,7 +119,7 @@ impl Driver {
     /// The index of tables that pass the check, and each place by it; places by an index of any octets.
     pub fn indexes(&mut self) {
         for k in 0..1_000 * self.times {
-            let table = match self.tables.get(k) {
+            let table = match self.tables.optional.get(k) {
                 Some(table) => table.clone(),
                 None => gen_tables::optional(&mut self.random),
             };

@@ -24,7 +24,7 @@ impl Driver {
 
     /// Every part up to some octets over alphabets that meet every branch under table P.
     pub fn every_part(&mut self) {
-        let table = self.tables[0].clone();
+        let table = self.tables.optional[0].clone();
         let model = Model::new(&table);
         let all = [0, 1, 2, 5, 0x10, 0x2f, 0x31, 0x52, 0x6f, 0x70, 0x77, 0x7e, 0x90, 0xc1, 0xc3, 0xff];
         let most = [0, 1, 5, 0x10, 0x31, 0x52, 0x70, 0x77, 0x90, 0xc1];
@@ -63,7 +63,7 @@ impl Driver {
 
     /// P and the six real tables by number, and numbers that no table has.
     pub fn numbered_tables(&mut self) {
-        let tables = self.tables.clone();
+        let tables = self.tables.optional.clone();
         let models: Vec<Model> = tables.iter().map(|table| Model::new(table)).collect();
         for _ in 0..1_000_000 * self.times {
             let number = self.random.below(7);
@@ -81,7 +81,7 @@ impl Driver {
 
     /// Long values, and parts up to the limit and over it, in room around what they need.
     pub fn long_parts(&mut self) {
-        let tables = self.tables.clone();
+        let tables = self.tables.optional.clone();
         for _ in 0..3_000 * self.times {
             let table = match self.random.below(3) {
                 0 => gen_tables::optional(&mut self.random),

@@ -80,7 +80,7 @@ impl Driver {
 
     /// Document 01's examples of edits: of the Rust, and then of both sides.
     pub fn edit_examples(&mut self) {
-        let table = self.tables[0].clone();
+        let table = self.tables.optional[0].clone();
         let model = Model::new(&table);
         for (part, place, value, written) in examples::EDITED {
             let Some(mut filled) = gen_writing::read(&mut self.random, &model, part.to_vec(), START, false) else {
@@ -104,7 +104,7 @@ impl Driver {
     /// Every order log up to some octets over an alphabet that meets every branch under table P, with no, one and two kept
     /// elements, and with all, some and no places present.
     pub fn every_order(&mut self) {
-        let table = self.tables[0].clone();
+        let table = self.tables.optional[0].clone();
         let model = Model::new(&table);
         let all = [1, 0, 1, 1, 1, 1, 1, 0, 2, 2, 0, 2, 1, 0, 0];
         let some = [1, 2, 1, 0, 0, 0, 2, 0, 2, 0, 0, 0, 1, 1, 3];
@@ -157,7 +157,7 @@ impl Driver {
 
     /// Messages of P and the six real tables by number, by the same tables lent, and by numbers that no table has.
     pub fn writing_numbered_tables(&mut self) {
-        let tables = self.tables.clone();
+        let tables = self.tables.optional.clone();
         let models: Vec<Model> = tables.iter().map(|table| Model::new(table)).collect();
         for _ in 0..600_000 * self.times {
             let number = self.random.below(7);
@@ -175,7 +175,7 @@ impl Driver {
 
     /// Long values, received and set octets and logs up to their limits and over them.
     pub fn long_writings(&mut self) {
-        let tables = self.tables.clone();
+        let tables = self.tables.optional.clone();
         for _ in 0..1_000 * self.times {
             let random = &mut self.random;
             let table = match random.below(3) {
@@ -207,7 +207,7 @@ impl Driver {
 
     /// Under P, one number at its limit or over it.
     fn limits(&mut self) {
-        let table = self.tables[0].clone();
+        let table = self.tables.optional[0].clone();
         let model = Model::new(&table);
         for octets in [65_534, 65_535, 65_536, 131_070] {
             // Received and set octets; a longer lent buffer is fine.

@@ -7,6 +7,7 @@ use crate::calls::{Call, Family, Outcome};
 use crate::cores::ByRust;
 use crate::interface::Side;
 use crate::random::Random;
+use crate::rows::Tables;
 use crate::sides::Judged;
 
 /// How many differences are printed; the others are counted.
@@ -15,7 +16,7 @@ const PRINTED: u64 = 5;
 pub struct Driver {
     pub ours: Box<dyn Side>,
     pub right: Judged<ByRust>,
-    pub tables: Rc<Vec<Vec<u32>>>,
+    pub tables: Rc<Tables>,
     pub random: Random,
     /// How many times as many random cases as usual.
     pub times: usize,
@@ -28,7 +29,7 @@ pub struct Driver {
 }
 
 impl Driver {
-    pub fn new(ours: Box<dyn Side>, tables: Rc<Vec<Vec<u32>>>, seed: u64, times: usize) -> Self {
+    pub fn new(ours: Box<dyn Side>, tables: Rc<Tables>, seed: u64, times: usize) -> Self {
         Self {
             ours,
             right: Judged::new(&tables),

@@ -55,15 +55,14 @@ pub fn any_value(random: &mut Random, form: Form) -> Vec<u8> {
     value
 }
 
-/// Place rows whose values fit, from received octets, which may overlap, and from set ones.
-fn places(random: &mut Random, rows: &[Row]) -> Places {
+/// Place rows whose values fit, from received octets, which may overlap, and from set ones; `absent` of eight are absent.
+pub fn places(random: &mut Random, forms: &[Form], absent: usize) -> Places {
     let mut places = Places::default();
     let mut set = Vec::new();
     let count = random.below(24);
     places.received = random.octets(count);
-    let absent = random.pick(&[0, 1, 3, 7]);
-    for row in rows {
-        let length = length(random, row.form);
+    for &form in forms {
+        let length = length(random, form);
         if random.below(8) < absent {
             places.rows.extend([0, 0, 0]);
         } else if random.once_in(2) {
@@ -74,7 +73,7 @@ fn places(random: &mut Random, rows: &[Row]) -> Places {
             let start = random.below(places.received.len() - length + 1);
             places.rows.extend([1, start as u32, length as u32]);
         } else {
-            let value = value(random, row.form);
+            let value = value(random, form);
             places.rows.extend([2, set.len() as u32, value.len() as u32]);
             set.extend(value);
         }
@@ -120,7 +119,9 @@ pub fn made_up(random: &mut Random, rows: &[Row]) -> Filled {
         let data = random.octets(length);
         kept = judge::kept_push(&kept, random.octet(), &data);
     }
-    Filled { places: places(random, rows), kept: lent(random, kept), order: lent(random, order) }
+    let forms: Vec<Form> = rows.iter().map(|row| row.form).collect();
+    let absent = random.pick(&[0, 1, 3, 7]);
+    Filled { places: places(random, &forms, absent), kept: lent(random, kept), order: lent(random, order) }
 }
 
 /// A used count that is another.

@@ -46,6 +46,7 @@ pub trait Side {
 
     /// None where the library has no such calls yet.
     fn writing(&self) -> Option<&dyn Writing>;
+    fn mandatory(&self) -> Option<&dyn Mandatory>;
 }
 
 /// Writing an optional part, and edits of its places.
@@ -71,4 +72,47 @@ pub struct Edited<'a> {
     pub set: &'a mut [u8],
     pub used: usize,
     pub place: usize,
+}
+
+/// Row and number of each note.
+pub type Notes = [u32; 64];
+
+/// Mandatory rows, read and written.
+pub trait Mandatory {
+    fn read_mandatory(
+        &self,
+        part: &[u8],
+        table: &[u32],
+        lenient: u8,
+        rows: &mut [u32],
+        notes: &mut Notes,
+        values: &mut Values,
+    ) -> u32;
+    fn read_mandatory_by(
+        &self,
+        number: u32,
+        part: &[u8],
+        lenient: u8,
+        rows: &mut [u32],
+        notes: &mut Notes,
+        values: &mut Values,
+    ) -> u32;
+    fn write_mandatory(
+        &self,
+        table: &[u32],
+        rows: &[u32],
+        received: &[u8],
+        set: Used<'_>,
+        output: &mut [u8],
+        values: &mut Values,
+    ) -> u32;
+    fn write_mandatory_by(
+        &self,
+        number: u32,
+        rows: &[u32],
+        received: &[u8],
+        set: Used<'_>,
+        output: &mut [u8],
+        values: &mut Values,
+    ) -> u32;
 }

@@ -93,7 +93,7 @@ fn header(form: Form) -> usize {
 
 /// The value rule: an empty value is receivable, another when the kind that its first octet ends in is in the set. The low
 /// three bits of a half octet are those of its whole octet.
-fn receivable(set: u32, value: &[u8]) -> bool {
+pub fn receivable(set: u32, value: &[u8]) -> bool {
     match value {
         [] => true,
         [first, ..] => set & (1 << (first % 8)) != 0,

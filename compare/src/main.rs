@@ -46,7 +46,7 @@ fn main() -> ExitCode {
     let mut driver = Driver::new(ours(&tables, model), tables, seed, times);
     println!("{} against {}, seed {seed}, times {times}", driver.ours.name(), driver.right.name());
     let begun = Instant::now();
-    let sections: [(&str, Section); 17] = [
+    let sections: [(&str, Section); 20] = [
         ("examples of document 01", Driver::examples),
         ("recorded answers", Driver::recorded),
         ("unknown length", Driver::lengths),
@@ -64,6 +64,9 @@ fn main() -> ExitCode {
         ("writing, random tables", Driver::writing_random_tables),
         ("writing, numbered tables", Driver::writing_numbered_tables),
         ("writing, limits", Driver::long_writings),
+        ("mandatory rows, random tables", Driver::mandatory_random_tables),
+        ("mandatory rows, numbered tables", Driver::mandatory_numbered_tables),
+        ("mandatory rows, limits", Driver::long_mandatory),
     ];
     for (name, section) in sections {
         let before = (driver.cases, driver.differences);

@@ -6,25 +6,21 @@ use crate::oracle::Table;
 use crate::rows::Form;
 
 /// A half octet, as the Rust has it.
-struct Half {
-    value: u8,
+pub(crate) struct Half {
+    pub(crate) value: u8,
 }
 
-/// A value with its form, which the Rust's types know themselves.
-struct Framed<'a> {
-    form: Form,
-    octets: &'a [u8],
+/// A value, and how many octets its length field has, which the Rust's types know themselves.
+pub(crate) struct Framed<'a> {
+    pub(crate) width: usize,
+    pub(crate) octets: &'a [u8],
 }
 
 impl Framed<'_> {
-    /// The length field of the form, then the value.
-    fn encode_into(&self, buffer: &mut Vec<u8>) -> common::Result<()> {
-        let length = self.octets.len() as u16;
-        match self.form {
-            Form::Half | Form::Fixed(_) => {}
-            Form::Tlv => buffer.push(length as u8),
-            Form::TlvE => buffer.extend(length.to_be_bytes()),
-        }
+    /// The length field, then the value.
+    pub(crate) fn encode_into(&self, buffer: &mut Vec<u8>) -> common::Result<()> {
+        let length = (self.octets.len() as u16).to_be_bytes();
+        buffer.extend_from_slice(&length[2 - self.width..]);
         buffer.extend_from_slice(self.octets);
         Ok(())
     }
@@ -64,7 +60,12 @@ pub fn write_into(table: &Table, filled: &Filled<'_>, logs: &Logs, buffer: &mut 
                 nas_message!(@encode_opt buffer, value, iei, tv1);
             }
             form => {
-                let value = Framed { form, octets };
+                let width = match form {
+                    Form::Tlv => 1,
+                    Form::TlvE => 2,
+                    Form::Half | Form::Fixed(_) => 0,
+                };
+                let value = Framed { width, octets };
                 nas_message!(@encode_opt buffer, value, iei);
             }
         }

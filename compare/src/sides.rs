@@ -4,10 +4,11 @@ use std::cell::RefCell;
 use std::rc::Rc;
 
 use crate::cores::{ByModel, Core};
-use crate::interface::{Edited, Lent, Message, Side, Used, Values, Writing};
+use crate::interface::{Edited, Lent, Mandatory, Message, Notes, Side, Used, Values, Writing};
 use crate::judge::{self, Answer, Log, Model, Room, answer};
+use crate::judge_mandatory;
 use crate::judge_writing::{self, Edit};
-use crate::rows::{PLACE, START};
+use crate::rows::{PLACE, START, Tables};
 
 /// The numbers of a table that passes the check, what a core makes of them, and what the judge does.
 struct Made<C: Core> {
@@ -26,12 +27,17 @@ impl<C: Core> Made<C> {
 /// by many times.
 pub struct Judged<C: Core> {
     numbered: Vec<Rc<Made<C>>>,
+    mandatory: Vec<Vec<u32>>,
     last: RefCell<Option<Rc<Made<C>>>>,
 }
 
 impl<C: Core> Judged<C> {
-    pub fn new(numbered: &[Vec<u32>]) -> Self {
-        Self { numbered: numbered.iter().map(|table| Rc::new(Made::new(table))).collect(), last: RefCell::new(None) }
+    pub fn new(tables: &Tables) -> Self {
+        Self {
+            numbered: tables.optional.iter().map(|table| Rc::new(Made::new(table))).collect(),
+            mandatory: tables.mandatory.clone(),
+            last: RefCell::new(None),
+        }
     }
 
     fn made(&self, table: &[u32]) -> Rc<Made<C>> {
@@ -164,6 +170,10 @@ impl<C: Core> Side for Judged<C> {
     fn writing(&self) -> Option<&dyn Writing> {
         Some(self)
     }
+
+    fn mandatory(&self) -> Option<&dyn Mandatory> {
+        Some(self)
+    }
 }
 
 impl<C: Core> Writing for Judged<C> {
@@ -215,6 +225,77 @@ impl<C: Core> Writing for Judged<C> {
     }
 }
 
+impl<C: Core> Mandatory for Judged<C> {
+    fn read_mandatory(
+        &self,
+        part: &[u8],
+        table: &[u32],
+        lenient: u8,
+        rows: &mut [u32],
+        notes: &mut Notes,
+        values: &mut Values,
+    ) -> u32 {
+        let said = judge_mandatory::reading(table, part, rows.len()).map_or_else(
+            |refusal| refusal,
+            |table| {
+                let read = C::read_rows(&table, part, lenient != 0);
+                notes[..read.notes.len()].copy_from_slice(&read.notes);
+                match read.refused {
+                    Some((number, row)) => answer(number, &[row, read.notes.len() / 2]),
+                    None => {
+                        rows[..read.rows.len()].copy_from_slice(&read.rows);
+                        answer(0, &[read.read, read.notes.len() / 2])
+                    }
+                }
+            },
+        );
+        give(said, values)
+    }
+
+    fn read_mandatory_by(
+        &self,
+        number: u32,
+        part: &[u8],
+        lenient: u8,
+        rows: &mut [u32],
+        notes: &mut Notes,
+        values: &mut Values,
+    ) -> u32 {
+        match self.mandatory.get(number as usize) {
+            Some(table) => self.read_mandatory(part, table, lenient, rows, notes, values),
+            None => give(answer(5, &[]), values),
+        }
+    }
+
+    fn write_mandatory(
+        &self,
+        table: &[u32],
+        rows: &[u32],
+        received: &[u8],
+        set: Used<'_>,
+        output: &mut [u8],
+        values: &mut Values,
+    ) -> u32 {
+        let filled = judge_mandatory::writing(table, rows, received, set);
+        asked(filled.and_then(|filled| put(output, &C::write_rows(&filled))), values)
+    }
+
+    fn write_mandatory_by(
+        &self,
+        number: u32,
+        rows: &[u32],
+        received: &[u8],
+        set: Used<'_>,
+        output: &mut [u8],
+        values: &mut Values,
+    ) -> u32 {
+        match self.mandatory.get(number as usize) {
+            Some(table) => self.write_mandatory(table, rows, received, set, output, values),
+            None => give(answer(5, &[]), values),
+        }
+    }
+}
+
 /// Octets into an output: how many they are, or 12.
 fn put(output: &mut [u8], octets: &[u8]) -> Result<Vec<usize>, Answer> {
     match output.get_mut(..octets.len()) {
@@ -227,8 +308,8 @@ fn put(output: &mut [u8], octets: &[u8]) -> Result<Vec<usize>, Answer> {
 }
 
 /// Our side: libnas.a where it is linked and the model is not asked for.
-pub fn ours(numbered: &[Vec<u32>], model: bool) -> Box<dyn Side> {
-    linked().filter(|_| !model).unwrap_or_else(|| Box::new(Judged::<ByModel>::new(numbered)))
+pub fn ours(tables: &Tables, model: bool) -> Box<dyn Side> {
+    linked().filter(|_| !model).unwrap_or_else(|| Box::new(Judged::<ByModel>::new(tables)))
 }
 
 #[cfg(feature = "linked")]

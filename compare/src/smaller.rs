@@ -39,8 +39,8 @@ impl Places {
     }
 
     /// Rows of a table go with those of their places.
-    fn drop_rows(&mut self, table: &mut Vec<u32>, at: usize, count: usize) {
-        drop_units(table, WIDTH, at, count);
+    fn drop_rows(&mut self, table: &mut Vec<u32>, width: usize, at: usize, count: usize) {
+        drop_units(table, width, at, count);
         drop_units(&mut self.rows, PLACE, at, count);
     }
 }
@@ -78,6 +78,12 @@ impl Call {
                 [places.lengths(), vec![table.len().div_ceil(WIDTH), value.len()]].concat()
             }
             Call::Clear { table, places, .. } => [places.lengths(), vec![table.len().div_ceil(WIDTH)]].concat(),
+            Call::ReadMandatory { part, table, .. } => vec![part.len(), table.len().div_ceil(MANDATORY_WIDTH)],
+            Call::ReadMandatoryBy { part, .. } => vec![part.len()],
+            Call::WriteMandatory { table, places, .. } => {
+                [places.lengths(), vec![table.len().div_ceil(MANDATORY_WIDTH)]].concat()
+            }
+            Call::WriteMandatoryBy { places, .. } => places.lengths(),
         }
     }
 
@@ -99,11 +105,23 @@ impl Call {
             Call::Read { table, .. } if list == 1 => drop_units(table, WIDTH, at, count),
             Call::Read { part, .. } | Call::ReadBy { part, .. } => drop_units(part, 1, at, count),
             Call::Write { filled, .. } | Call::WriteBy { filled, .. } if list < 4 => filled.drop_at(list, at, count),
-            Call::Set { places, .. } | Call::Clear { places, .. } if list < 2 => places.drop_at(list, at, count),
-            Call::Write { table, filled: Filled { places, .. }, .. } => places.drop_rows(table, at, count),
-            Call::WriteBy { .. } => {}
+            Call::Set { places, .. }
+            | Call::Clear { places, .. }
+            | Call::WriteMandatory { places, .. }
+            | Call::WriteMandatoryBy { places, .. }
+                if list < 2 =>
+            {
+                places.drop_at(list, at, count)
+            }
+            Call::Write { table, filled: Filled { places, .. }, .. } => places.drop_rows(table, WIDTH, at, count),
+            Call::WriteBy { .. } | Call::WriteMandatoryBy { .. } => {}
+            Call::ReadMandatory { table, .. } if list == 1 => drop_units(table, MANDATORY_WIDTH, at, count),
+            Call::ReadMandatory { part, .. } | Call::ReadMandatoryBy { part, .. } => drop_units(part, 1, at, count),
+            Call::WriteMandatory { table, places, .. } => places.drop_rows(table, MANDATORY_WIDTH, at, count),
             Call::Set { value, .. } if list == 3 => drop_units(value, 1, at, count),
-            Call::Set { table, places, .. } | Call::Clear { table, places, .. } => places.drop_rows(table, at, count),
+            Call::Set { table, places, .. } | Call::Clear { table, places, .. } => {
+                places.drop_rows(table, WIDTH, at, count)
+            }
         }
         call
     }

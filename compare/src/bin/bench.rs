@@ -48,8 +48,8 @@ fn main() -> ExitCode {
     );
     println!("number: by table number; lent: ours checks and indexes the table in each call, the Rust indexes it");
     println!("{:50} {:>7} {:16} {:>12} {:>12} {:>7}", "input", "octets", "way", "ours", "Rust", "ratio");
-    for input in inputs(&tables) {
-        let Some(bench) = Bench::new(&*ours, &right, &tables, &input) else {
+    for input in inputs(&tables.optional) {
+        let Some(bench) = Bench::new(&*ours, &right, &tables.optional, &input) else {
             println!("{}: the sides differ: run the comparison first", input.name);
             return ExitCode::FAILURE;
         };
@@ -79,7 +79,7 @@ fn main() -> ExitCode {
             // A part has at most 65,535 octets, one less than 64 KiB.
             let octets = (1024 * kib).min(65_535);
             let input = Input { name: name.into(), number: 0, part: repeat(element, octets) };
-            let Some(bench) = Bench::new(&*ours, &right, &tables, &input) else {
+            let Some(bench) = Bench::new(&*ours, &right, &tables.optional, &input) else {
                 println!("{name}: the sides differ: run the comparison first");
                 return ExitCode::FAILURE;
             };

@@ -13,7 +13,7 @@ use compare::gen_parts::{self, Size};
 use compare::gen_tables;
 use compare::judge::{Model, Room, first_bad};
 use compare::random::Random;
-use compare::rows::{PLACE, START, WIDTH, numbered_or_exit};
+use compare::rows::{PLACE, START, Tables, WIDTH, numbered_or_exit};
 use compare::sides::Judged;
 
 /// How many cases the list has, and how many of one kind at most.
@@ -24,7 +24,7 @@ const OF_A_KIND: usize = 2;
 const LENT: u8 = 255;
 
 struct Recorder {
-    tables: Rc<Vec<Vec<u32>>>,
+    tables: Rc<Tables>,
     right: Judged<ByRust>,
     random: Random,
     list: Vec<u8>,
@@ -182,7 +182,7 @@ impl Recorder {
 
     /// Parts under the seven numbered tables, until the list is full.
     fn sample(&mut self) {
-        let models: Vec<Model> = self.tables.iter().map(|table| Model::new(table)).collect();
+        let models: Vec<Model> = self.tables.optional.iter().map(|table| Model::new(table)).collect();
         while (self.cases as usize) < CASES {
             let number = self.random.below(7);
             let model = &models[number];
@@ -274,7 +274,7 @@ impl Recorder {
         let places = match (done, number) {
             (false, _) => 0,
             (true, LENT) => lent_places,
-            (true, number) => self.tables[usize::from(number)].len() / WIDTH,
+            (true, number) => self.tables.optional[usize::from(number)].len() / WIDTH,
         };
         let rows: Vec<&[u32]> = outcome.rows[..PLACE * places].chunks(PLACE).collect();
         let present: Vec<usize> = (0..places).filter(|&place| rows[place][0] == 1).collect();
