@@ -53,6 +53,7 @@ const TAKEN: [(&str, &[&str]); 3] = [
             "type DecodeKnown",
             "fn decode_optional_ies",
             "fn encode_optional_ies",
+            "fn optional_ie_order_findings",
         ],
     ),
 ];

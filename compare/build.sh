@@ -1,8 +1,8 @@
 # Builds the programs of this folder; the scripts beside it source it with their arguments. Without --model it makes libnas.a
 # first and links it.
 
-# The families of calls that libnas.a has besides the pieces and reading: of linked-writing and
-# linked-mandatory. A family is added here when
+# The families of calls that libnas.a has besides the pieces and reading: of linked-writing,
+# linked-mandatory and linked-findings. A family is added here when
 # include/nas.h has its calls; the cases of one that is not here are left out, and the comparison says how many.
 families=""
 if ! command -v cargo > /dev/null; then

@@ -29,6 +29,7 @@ pub enum Call {
     ReadMandatoryBy { number: u32, part: Vec<u8>, lenient: u8, rows: usize },
     WriteMandatory { table: Vec<u32>, places: Places, output: usize },
     WriteMandatoryBy { number: u32, places: Places, output: usize },
+    Findings { table: Vec<u32>, kept: Octets, order: Octets, findings: usize },
 }
 
 /// Lent octets and how many of them are used.
@@ -86,6 +87,7 @@ pub enum Family {
     Editing,
     ReadingRows,
     WritingRows,
+    Finding,
 }
 
 impl Family {
@@ -97,6 +99,7 @@ impl Family {
             Family::Editing => "edits",
             Family::ReadingRows => "readings of mandatory rows",
             Family::WritingRows => "writings of mandatory rows",
+            Family::Finding => "lists of findings",
         }
     }
 
@@ -106,6 +109,7 @@ impl Family {
             Family::Pieces | Family::Reading => true,
             Family::Writing | Family::Editing => side.writing().is_some(),
             Family::ReadingRows | Family::WritingRows => side.mandatory().is_some(),
+            Family::Finding => side.findings().is_some(),
         }
     }
 }
@@ -148,6 +152,7 @@ impl Call {
             Call::Set { .. } | Call::Clear { .. } => Family::Editing,
             Call::ReadMandatory { .. } | Call::ReadMandatoryBy { .. } => Family::ReadingRows,
             Call::WriteMandatory { .. } | Call::WriteMandatoryBy { .. } => Family::WritingRows,
+            Call::Findings { .. } => Family::Finding,
             _ => Family::Pieces,
         }
     }
@@ -244,6 +249,11 @@ impl Call {
                 let Places { rows, received, set } = places;
                 mandatory(side).write_mandatory_by(*number, rows, received, set.lent(), &mut logs[0], &mut values)
             }
+            Call::Findings { table, kept, order, findings } => {
+                notes = lent_rows(*findings);
+                let side = side.findings().expect("a call is made on sides that have it");
+                side.findings(table, kept.lent(), order.lent(), &mut notes, &mut values)
+            }
         };
         Outcome { number, values, rows, notes, logs }
     }
@@ -316,6 +326,9 @@ impl Display for Call {
             }
             Call::WriteMandatoryBy { number, places, output } => {
                 write!(f, "write_mandatory_by {number} {places} output {output}")
+            }
+            Call::Findings { table, kept, order, findings } => {
+                write!(f, "findings kept {kept} order {order} findings {findings} table {}", listed(table, WIDTH))
             }
         }
     }

@@ -4,6 +4,7 @@ use crate::judge::{self, Cut, Model, Reading};
 use crate::judge_mandatory::{self, FilledRows, RowsRead};
 use crate::judge_writing::Filled;
 use crate::oracle;
+use crate::oracle_findings;
 use crate::oracle_mandatory;
 use crate::oracle_writing;
 use crate::rows::MandatoryRow;
@@ -26,6 +27,7 @@ pub trait Core {
     fn index(table: &Self::Table) -> [u8; 256];
     fn read(table: &Self::Table, part: &[u8], tlve_start: u8, option: bool) -> Result<Reading, Cut>;
     fn write(table: &Self::Table, filled: &Filled<'_>) -> Vec<u8>;
+    fn findings(table: &Self::Table, kept: &[u8], order: &[u8]) -> Vec<[u32; 2]>;
     fn read_rows(rows: &[MandatoryRow], part: &[u8], lenient: bool) -> RowsRead;
     fn write_rows(filled: &FilledRows<'_>) -> Vec<u8>;
 }
@@ -73,6 +75,9 @@ impl Core for ByRust {
     }
     fn write(table: &Self::Table, filled: &Filled<'_>) -> Vec<u8> {
         oracle_writing::write(table, filled)
+    }
+    fn findings(table: &Self::Table, kept: &[u8], order: &[u8]) -> Vec<[u32; 2]> {
+        oracle_findings::findings(table, kept, order)
     }
     fn read_rows(rows: &[MandatoryRow], part: &[u8], lenient: bool) -> RowsRead {
         oracle_mandatory::read_rows(rows, part, lenient)
@@ -125,6 +130,9 @@ impl Core for ByModel {
     }
     fn write(table: &Self::Table, filled: &Filled<'_>) -> Vec<u8> {
         table.write(filled)
+    }
+    fn findings(table: &Self::Table, kept: &[u8], order: &[u8]) -> Vec<[u32; 2]> {
+        table.findings(kept, order)
     }
     fn read_rows(rows: &[MandatoryRow], part: &[u8], lenient: bool) -> RowsRead {
         judge_mandatory::read_rows(rows, part, lenient)

@@ -117,7 +117,13 @@ pub fn made_up(random: &mut Random, rows: &[Row]) -> Filled {
     for _ in 0..elements {
         let length = if random.once_in(24) { 120 + random.below(12) } else { random.below(5) };
         let data = random.octets(length);
-        kept = judge::kept_push(&kept, random.octet(), &data);
+        // Now and then a first octet that a place has.
+        let first = match rows.is_empty() || random.once_in(2) {
+            true => random.octet(),
+            false => rows[random.below(rows.len())].ieis[0],
+        };
+        let first = if first < 0x80 { first } else { first | random.octet() & 0x0f };
+        kept = judge::kept_push(&kept, first, &data);
     }
     let forms: Vec<Form> = rows.iter().map(|row| row.form).collect();
     let absent = random.pick(&[0, 1, 3, 7]);
@@ -174,12 +180,22 @@ pub fn spoil_places(random: &mut Random, places: &mut Places) {
 /// A message with one or two things wrong, mostly.
 pub fn spoiled(random: &mut Random, mut filled: Filled) -> Filled {
     for _ in 0..1 + random.below(2) {
-        match random.below(8) {
+        match random.once_in(2) {
+            true => filled = spoiled_logs(random, filled),
+            false => spoil_places(random, &mut filled.places),
+        }
+    }
+    filled
+}
+
+/// A message with one or two things wrong with its logs, mostly.
+pub fn spoiled_logs(random: &mut Random, mut filled: Filled) -> Filled {
+    for _ in 0..1 + random.below(2) {
+        match random.below(4) {
             0 => spoil_log(random, &mut filled.order),
             1 => spoil_log(random, &mut filled.kept),
             2 => other_count(random, &mut filled.order, MOST_LOG),
-            3 => other_count(random, &mut filled.kept, MOST_LOG),
-            _ => spoil_places(random, &mut filled.places),
+            _ => other_count(random, &mut filled.kept, MOST_LOG),
         }
     }
     filled

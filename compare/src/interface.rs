@@ -47,6 +47,7 @@ pub trait Side {
     /// None where the library has no such calls yet.
     fn writing(&self) -> Option<&dyn Writing>;
     fn mandatory(&self) -> Option<&dyn Mandatory>;
+    fn findings(&self) -> Option<&dyn Findings>;
 }
 
 /// Writing an optional part, and edits of its places.
@@ -113,6 +114,18 @@ pub trait Mandatory {
         received: &[u8],
         set: Used<'_>,
         output: &mut [u8],
+        values: &mut Values,
+    ) -> u32;
+}
+
+/// Findings: entry number and kind of each.
+pub trait Findings {
+    fn findings(
+        &self,
+        table: &[u32],
+        kept: Used<'_>,
+        order: Used<'_>,
+        findings: &mut [u32],
         values: &mut Values,
     ) -> u32;
 }

@@ -3,6 +3,7 @@
 pub mod calls;
 mod common;
 pub mod cores;
+mod drive_findings;
 mod drive_logs;
 mod drive_mandatory;
 mod drive_pieces;
@@ -17,15 +18,19 @@ pub mod gen_tables;
 pub mod gen_writing;
 pub mod interface;
 pub mod judge;
+pub mod judge_findings;
 pub mod judge_mandatory;
 pub mod judge_writing;
 #[cfg(feature = "linked")]
 mod linked;
+#[cfg(feature = "linked-findings")]
+mod linked_findings;
 #[cfg(feature = "linked-mandatory")]
 mod linked_mandatory;
 #[cfg(feature = "linked-writing")]
 mod linked_writing;
 pub mod oracle;
+mod oracle_findings;
 mod oracle_mandatory;
 pub mod oracle_writing;
 pub mod random;

@@ -1,6 +1,6 @@
 //! Our side: the C interface of libnas.a.
 
-use crate::interface::{Lent, Mandatory, Side, Values, Writing};
+use crate::interface::{Findings, Lent, Mandatory, Side, Values, Writing};
 
 unsafe extern "C" {
     fn nas_generic_ie_length(octets: *const u8, octets_len: usize, tlve_start: u8, values: *mut Values) -> u32;
@@ -153,6 +153,13 @@ impl Side for Linked {
         #[cfg(feature = "linked-mandatory")]
         return Some(self);
         #[cfg(not(feature = "linked-mandatory"))]
+        None
+    }
+
+    fn findings(&self) -> Option<&dyn Findings> {
+        #[cfg(feature = "linked-findings")]
+        return Some(self);
+        #[cfg(not(feature = "linked-findings"))]
         None
     }
 }

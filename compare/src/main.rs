@@ -46,7 +46,7 @@ fn main() -> ExitCode {
     let mut driver = Driver::new(ours(&tables, model), tables, seed, times);
     println!("{} against {}, seed {seed}, times {times}", driver.ours.name(), driver.right.name());
     let begun = Instant::now();
-    let sections: [(&str, Section); 20] = [
+    let sections: [(&str, Section); 23] = [
         ("examples of document 01", Driver::examples),
         ("recorded answers", Driver::recorded),
         ("unknown length", Driver::lengths),
@@ -67,6 +67,9 @@ fn main() -> ExitCode {
         ("mandatory rows, random tables", Driver::mandatory_random_tables),
         ("mandatory rows, numbered tables", Driver::mandatory_numbered_tables),
         ("mandatory rows, limits", Driver::long_mandatory),
+        ("findings, every short order log", Driver::findings_every_order),
+        ("findings, random logs", Driver::findings_random),
+        ("findings, long logs", Driver::findings_long),
     ];
     for (name, section) in sections {
         let before = (driver.cases, driver.differences);

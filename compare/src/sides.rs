@@ -4,8 +4,9 @@ use std::cell::RefCell;
 use std::rc::Rc;
 
 use crate::cores::{ByModel, Core};
-use crate::interface::{Edited, Lent, Mandatory, Message, Notes, Side, Used, Values, Writing};
+use crate::interface::{Edited, Findings, Lent, Mandatory, Message, Notes, Side, Used, Values, Writing};
 use crate::judge::{self, Answer, Log, Model, Room, answer};
+use crate::judge_findings;
 use crate::judge_mandatory;
 use crate::judge_writing::{self, Edit};
 use crate::rows::{PLACE, START, Tables};
@@ -174,6 +175,10 @@ impl<C: Core> Side for Judged<C> {
     fn mandatory(&self) -> Option<&dyn Mandatory> {
         Some(self)
     }
+
+    fn findings(&self) -> Option<&dyn Findings> {
+        Some(self)
+    }
 }
 
 impl<C: Core> Writing for Judged<C> {
@@ -293,6 +298,25 @@ impl<C: Core> Mandatory for Judged<C> {
             Some(table) => self.write_mandatory(table, rows, received, set, output, values),
             None => give(answer(5, &[]), values),
         }
+    }
+}
+
+impl<C: Core> Findings for Judged<C> {
+    fn findings(
+        &self,
+        table: &[u32],
+        kept: Used<'_>,
+        order: Used<'_>,
+        findings: &mut [u32],
+        values: &mut Values,
+    ) -> u32 {
+        let said = judge_findings::finding(table, kept, order).and_then(|(kept, order)| {
+            let found = C::findings(&self.made(table).table, kept, order);
+            let lent = findings.get_mut(..2 * found.len()).ok_or_else(|| answer(2, &[4]))?;
+            lent.copy_from_slice(found.as_flattened());
+            Ok(vec![found.len()])
+        });
+        asked(said, values)
     }
 }
 

@@ -84,6 +84,9 @@ impl Call {
                 [places.lengths(), vec![table.len().div_ceil(MANDATORY_WIDTH)]].concat()
             }
             Call::WriteMandatoryBy { places, .. } => places.lengths(),
+            Call::Findings { table, kept, order, .. } => {
+                vec![kept.octets.len(), order.octets.len(), table.len().div_ceil(WIDTH)]
+            }
         }
     }
 
@@ -117,6 +120,9 @@ impl Call {
             Call::WriteBy { .. } | Call::WriteMandatoryBy { .. } => {}
             Call::ReadMandatory { table, .. } if list == 1 => drop_units(table, MANDATORY_WIDTH, at, count),
             Call::ReadMandatory { part, .. } | Call::ReadMandatoryBy { part, .. } => drop_units(part, 1, at, count),
+            Call::Findings { kept, .. } if list == 0 => drop_used(&mut kept.octets, &mut kept.used, at, count),
+            Call::Findings { order, .. } if list == 1 => drop_used(&mut order.octets, &mut order.used, at, count),
+            Call::Findings { table, .. } => drop_units(table, WIDTH, at, count),
             Call::WriteMandatory { table, places, .. } => places.drop_rows(table, MANDATORY_WIDTH, at, count),
             Call::Set { value, .. } if list == 3 => drop_units(value, 1, at, count),
             Call::Set { table, places, .. } | Call::Clear { table, places, .. } => {
