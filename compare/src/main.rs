@@ -46,9 +46,10 @@ fn main() -> ExitCode {
     let mut driver = Driver::new(ours(&tables, model), tables, seed, times);
     println!("{} against {}, seed {seed}, times {times}", driver.ours.name(), driver.right.name());
     let begun = Instant::now();
-    let sections: [(&str, Section); 23] = [
+    let sections: [(&str, Section); 24] = [
         ("examples of document 01", Driver::examples),
         ("recorded answers", Driver::recorded),
+        ("recorded answers of writing", Driver::recorded_writings),
         ("unknown length", Driver::lengths),
         ("table checks", Driver::checks),
         ("index", Driver::indexes),
