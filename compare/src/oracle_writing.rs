@@ -1,9 +1,9 @@
 //! The oracle's writing: the Rust's `encode_optional_ies`, with a `known` closure that carries out the rows of document 01.
 
 use crate::common::{self, IeOrder, NasError, UnknownIes, nas_message};
-use crate::judge_writing::{Filled, place_row, value_of};
+use crate::judge_writing::Filled;
 use crate::oracle::Table;
-use crate::rows::Form;
+use crate::rows::{Form, place_row, value_of};
 
 /// A half octet, as the Rust has it.
 pub(crate) struct Half {
