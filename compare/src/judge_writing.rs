@@ -234,3 +234,18 @@ pub fn setting(edit: Edit<'_>, value: &[u8]) -> Result<usize, Answer> {
 pub fn clearing(edit: Edit<'_>) -> Result<(), Answer> {
     editing(edit, 0).map(|_| ())
 }
+
+/// What a place shows: the checks of an edit, then 10 for that place. Of a half octet its four bits, of another value its
+/// source, start and length, of an absent place none.
+pub fn showing(edit: Edit<'_>) -> Result<Vec<usize>, Answer> {
+    let form = editing(edit, 0)?;
+    let place = place_row(edit.rows, edit.place);
+    let Some(value) = value_of(place, edit.received, edit.set.octets) else {
+        return Ok(vec![]);
+    };
+    match (fits(form, place.source == 1, value), form) {
+        (false, _) => Err(answer(10, &[edit.place])),
+        (true, Form::Half) => Ok(vec![usize::from(value[0] % 16)]),
+        (true, _) => Ok([place.source, place.start, place.length].map(|number| number as usize).to_vec()),
+    }
+}
