@@ -34,6 +34,7 @@ mod oracle_findings;
 mod oracle_mandatory;
 pub mod oracle_writing;
 pub mod random;
+pub mod recorded;
 pub mod replay;
 pub mod rows;
 pub mod sides;
