@@ -2,7 +2,7 @@
 
 use std::fmt::{self, Display, Formatter};
 
-use crate::interface::{Edited, Lent, Mandatory, Message, Side, Used, Values, Writing};
+use crate::interface::{Edited, Editing, Lent, Mandatory, Message, Side, State, Used, Values, Writing};
 use crate::judge::Room;
 use crate::rows::{MANDATORY_WIDTH, PLACE, WIDTH};
 
@@ -21,6 +21,8 @@ pub enum Call {
     OrderGet { log: Vec<u8>, used: usize, k: usize },
     Read { part: Vec<u8>, table: Vec<u32>, tlve_start: u8, option: u8, room: Room },
     ReadBy { number: u32, part: Vec<u8>, option: u8, room: Room },
+    Next { part: Vec<u8>, table: Vec<u32>, tlve_start: u8, option: u8, state: State },
+    Show { table: Vec<u32>, places: Places, place: usize },
     Write { table: Vec<u32>, filled: Filled, output: usize },
     WriteBy { number: u32, filled: Filled, output: usize },
     Set { table: Vec<u32>, places: Places, place: usize, value: Vec<u8> },
@@ -83,6 +85,8 @@ impl Filled {
 pub enum Family {
     Pieces,
     Reading,
+    Stepping,
+    Showing,
     Writing,
     Editing,
     ReadingRows,
@@ -95,6 +99,8 @@ impl Family {
         match self {
             Family::Pieces => "pieces",
             Family::Reading => "readings",
+            Family::Stepping => "readings of one element",
+            Family::Showing => "values shown",
             Family::Writing => "writings",
             Family::Editing => "edits",
             Family::ReadingRows => "readings of mandatory rows",
@@ -106,8 +112,9 @@ impl Family {
     /// Whether a side has these calls.
     pub fn on(self, side: &dyn Side) -> bool {
         match self {
-            Family::Pieces | Family::Reading => true,
-            Family::Writing | Family::Editing => side.writing().is_some(),
+            Family::Pieces | Family::Reading | Family::Stepping | Family::Showing => true,
+            Family::Writing => side.writing().is_some(),
+            Family::Editing => side.editing().is_some(),
             Family::ReadingRows | Family::WritingRows => side.mandatory().is_some(),
             Family::Finding => side.findings().is_some(),
         }
@@ -122,6 +129,11 @@ pub struct Outcome {
     pub rows: Vec<u32>,
     pub notes: Vec<u32>,
     pub logs: [Vec<u8>; 2],
+    pub state: State,
+}
+
+fn editing(side: &dyn Side) -> &dyn Editing {
+    side.editing().expect("a call is made on sides that have it")
 }
 
 fn writing(side: &dyn Side) -> &dyn Writing {
@@ -148,6 +160,8 @@ impl Call {
     pub fn family(&self) -> Family {
         match self {
             Call::Read { .. } | Call::ReadBy { .. } => Family::Reading,
+            Call::Next { .. } => Family::Stepping,
+            Call::Show { .. } => Family::Showing,
             Call::Write { .. } | Call::WriteBy { .. } => Family::Writing,
             Call::Set { .. } | Call::Clear { .. } => Family::Editing,
             Call::ReadMandatory { .. } | Call::ReadMandatoryBy { .. } => Family::ReadingRows,
@@ -161,6 +175,7 @@ impl Call {
         let mut values = [LEFT; 5];
         let mut rows = Vec::new();
         let mut notes = Vec::new();
+        let mut after = [0; 4];
         let mut logs = [Vec::new(), Vec::new()];
         let number = match self {
             Call::Length { octets, tlve_start } => side.generic_ie_length(octets, *tlve_start, &mut values),
@@ -200,6 +215,14 @@ impl Call {
                     _ => unreachable!("only readings have room"),
                 }
             }
+            Call::Next { part, table, tlve_start, option, state } => {
+                after = *state;
+                side.next(part, table, *tlve_start, *option, &mut after, &mut values)
+            }
+            Call::Show { table, places, place } => {
+                let Places { rows, received, set } = places;
+                side.show(table, rows, received, set.lent(), *place, &mut values)
+            }
             Call::Write { table, filled, output } => {
                 logs[0] = lent_octets(*output);
                 writing(side).write(table, filled.message(), &mut logs[0], &mut values)
@@ -218,11 +241,11 @@ impl Call {
                     used: places.set.used,
                     place: *place,
                 };
-                writing(side).set(table, edited, value, &mut values)
+                editing(side).set(table, edited, value, &mut values)
             }
             Call::Clear { table, places, place } => {
                 rows = places.rows.clone();
-                writing(side).clear(table, &mut rows, &places.received, places.set.lent(), *place, &mut values)
+                editing(side).clear(table, &mut rows, &places.received, places.set.lent(), *place, &mut values)
             }
             Call::ReadMandatory { rows: room, .. } | Call::ReadMandatoryBy { rows: room, .. } => {
                 rows = lent_rows(*room);
@@ -255,7 +278,7 @@ impl Call {
                 side.findings(table, kept.lent(), order.lent(), &mut notes, &mut values)
             }
         };
-        Outcome { number, values, rows, notes, logs }
+        Outcome { number, values, rows, notes, logs, state: after }
     }
 }
 
@@ -301,6 +324,15 @@ impl Display for Call {
             ),
             Call::ReadBy { number, part, option, room } => {
                 write!(f, "read_by {number} {} option {option} {room:?}", hex(part))
+            }
+            Call::Next { part, table, tlve_start, option, state } => write!(
+                f,
+                "next {} start {tlve_start:02x} option {option} state {state:x?} table {}",
+                hex(part),
+                listed(table, WIDTH)
+            ),
+            Call::Show { table, places, place } => {
+                write!(f, "show place {place} of {places} table {}", listed(table, WIDTH))
             }
             Call::Write { table, filled, output } => {
                 write!(f, "write {filled} output {output} table {}", listed(table, WIDTH))
@@ -370,6 +402,6 @@ impl Display for Outcome {
         }
         let last = self.notes.iter().rposition(|&note| note != 0xa5a5_a5a5).map_or(0, |last| last + 1);
         write!(f, " ) rows {:?} notes {:?} ", self.rows, &self.notes[..last])?;
-        write!(f, "logs {} {}", hex(&self.logs[0]), hex(&self.logs[1]))
+        write!(f, "logs {} {} state {:x?}", hex(&self.logs[0]), hex(&self.logs[1]), self.state)
     }
 }

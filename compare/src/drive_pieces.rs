@@ -5,6 +5,7 @@ use crate::driver::Driver;
 use crate::examples;
 use crate::gen_tables;
 use crate::judge::{self, Room};
+use crate::recorded;
 use crate::replay;
 use crate::rows::{MANDATORY_WIDTH, START, WIDTH};
 
@@ -51,6 +52,20 @@ impl Driver {
         for case in cases {
             self.expect(case.agrees(&case.call.on(&self.right)), &case.call);
             self.check(case.call);
+        }
+    }
+
+    /// The list beside it, of writings, edits, mandatory rows and findings.
+    pub fn recorded_writings(&mut self) {
+        let path = concat!(env!("CARGO_MANIFEST_DIR"), "/recorded-writing.bin");
+        let Some(cases) = std::fs::read(path).ok().and_then(|list| recorded::cases(&list)) else {
+            println!("recorded-writing.bin is not there or not in its format: compare/record writes it");
+            self.differences += 1;
+            return;
+        };
+        for step in cases.into_iter().flatten() {
+            self.expect(step.expected.agrees(&step.call.on(&self.right)), &step.call);
+            self.check(step.call);
         }
     }
 

@@ -111,4 +111,41 @@ impl Driver {
             }
         }
     }
+
+    /// Parts gone through by one element at a time; states that no reading reaches; damaged tables.
+    pub fn one_by_one(&mut self) {
+        for _ in 0..30_000 * self.times {
+            let table = match self.random.once_in(2) {
+                true => gen_tables::optional(&mut self.random),
+                false => self.tables.optional[self.random.below(7)].clone(),
+            };
+            let model = Model::new(&table);
+            let tlve_start = gen_tables::start(&mut self.random);
+            let option = self.random.pick(&[0, 0, 1, 255]);
+            let part = gen_parts::any(&mut self.random, model.rows(), tlve_start, Size::Short);
+            let mut state = [0; 4];
+            loop {
+                let call = Call::Next { part: part.clone(), table: table.clone(), tlve_start, option, state };
+                let right = self.check(call);
+                if right.number != 0 || right.said().is_empty() {
+                    break;
+                }
+                state = right.state;
+            }
+            for _ in 0..4 {
+                let random = &mut self.random;
+                let at = random.below(part.len() + 3) as u64;
+                let state = [
+                    random.pick(&[at, at, at, 65_535, 65_536, 1 << 32, u64::MAX]),
+                    random.number() & random.number(),
+                    random.pick(&[0, 1, u64::MAX]),
+                    random.pick(&[0, 1, 2, 5, 127, 128, 255, 256, 1 << 32, u64::MAX]),
+                ];
+                let damaged = random.once_in(4);
+                let table = if damaged { gen_tables::damaged(random, table.clone(), WIDTH) } else { table.clone() };
+                let part = if random.once_in(200) { vec![0x90; 65_534 + random.below(4)] } else { part.clone() };
+                self.check(Call::Next { part, table, tlve_start, option, state });
+            }
+        }
+    }
 }

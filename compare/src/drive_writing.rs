@@ -78,6 +78,16 @@ impl Driver {
         }
     }
 
+    /// A place of a message, and now and then one that it has not, shown.
+    fn shown(&mut self, model: &Model, table: &[u32], filled: &Filled) {
+        let places = model.rows().len();
+        let place = match self.random.below(24) {
+            0 => self.random.pick(&[places, places + 1, 128, 1 << 32, usize::MAX]),
+            _ => self.random.below(places.max(1)),
+        };
+        self.check(Call::Show { table: table.to_vec(), places: filled.places.clone(), place });
+    }
+
     /// Document 01's examples of edits: of the Rust, and then of both sides.
     pub fn edit_examples(&mut self) {
         let table = self.tables.optional[0].clone();
@@ -140,6 +150,7 @@ impl Driver {
             let start = gen_tables::start(&mut self.random);
             for _ in 0..14 {
                 let filled = self.message(&model, &table, start);
+                self.shown(&model, &table, &filled);
                 self.write(&model, &table, filled);
             }
             let filled = self.message(&model, &table, start);
@@ -147,6 +158,7 @@ impl Driver {
             if self.random.once_in(4) {
                 let place = self.random.below(4);
                 self.check(Call::Clear { table: bad.clone(), places: filled.places.clone(), place });
+                self.check(Call::Show { table: bad.clone(), places: filled.places.clone(), place });
                 let value = vec![1];
                 self.check(Call::Set { table: bad.clone(), places: filled.places.clone(), place, value });
             }
@@ -162,6 +174,9 @@ impl Driver {
         for _ in 0..600_000 * self.times {
             let number = self.random.below(7);
             let filled = self.message(&models[number], &tables[number], START);
+            if self.random.once_in(4) {
+                self.shown(&models[number], &tables[number], &filled);
+            }
             if self.random.once_in(20) {
                 let number = self.random.pick(&[7, 8, 255, 256, 65_536, u32::MAX]);
                 self.check(Call::WriteBy { number, filled: filled.clone(), output: 99 });
@@ -230,6 +245,7 @@ impl Driver {
                     places.set.octets.resize(places.set.used + room, 5);
                     self.check(Call::Set { table: table.clone(), places, place: 4, value: vec![3; length] });
                 }
+                self.check(Call::Show { table: table.clone(), places: filled.places.clone(), place: 4 });
                 self.check(Call::Clear { table: table.clone(), places: filled.places, place: 4 });
             }
         }

@@ -3,6 +3,9 @@
 
 pub type Values = [u64; 5];
 
+/// A state of reading: position, places met from 0 to 63 and from 64 to 127, highest place met.
+pub type State = [u64; 4];
+
 /// Memory lent to reading.
 pub struct Lent<'a> {
     pub rows: &'a mut [u32],
@@ -43,17 +46,40 @@ pub trait Side {
     fn order_get(&self, log: &[u8], used: usize, k: usize, values: &mut Values) -> u32;
     fn read(&self, part: &[u8], table: &[u32], tlve_start: u8, option: u8, lent: Lent<'_>, values: &mut Values) -> u32;
     fn read_by(&self, number: u32, part: &[u8], option: u8, lent: Lent<'_>, values: &mut Values) -> u32;
+    fn next(
+        &self,
+        part: &[u8],
+        table: &[u32],
+        tlve_start: u8,
+        option: u8,
+        state: &mut State,
+        values: &mut Values,
+    ) -> u32;
+    fn show(
+        &self,
+        table: &[u32],
+        rows: &[u32],
+        received: &[u8],
+        set: Used<'_>,
+        place: usize,
+        values: &mut Values,
+    ) -> u32;
 
     /// None where the library has no such calls yet.
+    fn editing(&self) -> Option<&dyn Editing>;
     fn writing(&self) -> Option<&dyn Writing>;
     fn mandatory(&self) -> Option<&dyn Mandatory>;
     fn findings(&self) -> Option<&dyn Findings>;
 }
 
-/// Writing an optional part, and edits of its places.
+/// Writing an optional part.
 pub trait Writing {
     fn write(&self, table: &[u32], message: Message<'_>, output: &mut [u8], values: &mut Values) -> u32;
     fn write_by(&self, number: u32, message: Message<'_>, output: &mut [u8], values: &mut Values) -> u32;
+}
+
+/// Edits of the places of a message.
+pub trait Editing {
     fn set(&self, table: &[u32], edited: Edited<'_>, value: &[u8], values: &mut Values) -> u32;
     fn clear(
         &self,

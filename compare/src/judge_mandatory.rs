@@ -3,8 +3,8 @@
 
 use crate::interface::Used;
 use crate::judge::{Answer, MOST_OCTETS, answer, first_bad_mandatory, receivable};
-use crate::judge_writing::{Place, contents, place_row, rows_well_formed, value_of};
-use crate::rows::{MANDATORY_WIDTH, MandatoryForm, MandatoryRow, PLACE, mandatory_rows_of};
+use crate::judge_writing::{contents, rows_well_formed};
+use crate::rows::{MANDATORY_WIDTH, MandatoryForm, MandatoryRow, PLACE, Place, mandatory_rows_of, place_row, value_of};
 
 /// What the rows find in a part: the fault that stops them, as its number and row; the octets read, the rows, the notes.
 #[derive(Debug, Clone, Default, PartialEq, Eq)]

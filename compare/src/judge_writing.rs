@@ -5,21 +5,7 @@ use std::rc::Rc;
 
 use crate::interface::{Message, Used};
 use crate::judge::{Answer, Log, MOST_LOG, MOST_OCTETS, Model, answer, first_bad, kept_list, order_list};
-use crate::rows::{Form, PLACE, WIDTH, rows_of};
-
-/// A place row.
-#[derive(Debug, Clone, Copy)]
-pub struct Place {
-    pub source: u32,
-    pub start: u32,
-    pub length: u32,
-}
-
-/// The row of a place.
-pub fn place_row(rows: &[u32], place: usize) -> Place {
-    let row = &rows[PLACE * place..];
-    Place { source: row[0], start: row[1], length: row[2] }
-}
+use crate::rows::{Form, PLACE, Place, WIDTH, place_row, rows_of, value_of};
 
 /// A message that passed its checks: of logs and set octets, those that are used.
 #[derive(Clone, Copy)]
@@ -29,16 +15,6 @@ pub struct Filled<'a> {
     pub set: &'a [u8],
     pub kept: &'a [u8],
     pub order: &'a [u8],
-}
-
-/// The octets of a value, by its well-formed row; none of an absent one.
-pub fn value_of<'a>(place: Place, received: &'a [u8], set: &'a [u8]) -> Option<&'a [u8]> {
-    let octets = match place.source {
-        0 => return None,
-        1 => received,
-        _ => set,
-    };
-    Some(&octets[place.start as usize..][..place.length as usize])
 }
 
 /// The used octets of lent ones; none where more are used than there are, or than may be.
@@ -257,4 +233,19 @@ pub fn setting(edit: Edit<'_>, value: &[u8]) -> Result<usize, Answer> {
 /// The checks of clearing.
 pub fn clearing(edit: Edit<'_>) -> Result<(), Answer> {
     editing(edit, 0).map(|_| ())
+}
+
+/// What a place shows: the checks of an edit, then 10 for that place. Of a half octet its four bits, of another value its
+/// source, start and length, of an absent place none.
+pub fn showing(edit: Edit<'_>) -> Result<Vec<usize>, Answer> {
+    let form = editing(edit, 0)?;
+    let place = place_row(edit.rows, edit.place);
+    let Some(value) = value_of(place, edit.received, edit.set.octets) else {
+        return Ok(vec![]);
+    };
+    match (fits(form, place.source == 1, value), form) {
+        (false, _) => Err(answer(10, &[edit.place])),
+        (true, Form::Half) => Ok(vec![usize::from(value[0] % 16)]),
+        (true, _) => Ok([place.source, place.start, place.length].map(|number| number as usize).to_vec()),
+    }
 }

@@ -23,6 +23,8 @@ pub mod judge_mandatory;
 pub mod judge_writing;
 #[cfg(feature = "linked")]
 mod linked;
+#[cfg(feature = "linked-editing")]
+mod linked_editing;
 #[cfg(feature = "linked-findings")]
 mod linked_findings;
 #[cfg(feature = "linked-mandatory")]
@@ -34,6 +36,7 @@ mod oracle_findings;
 mod oracle_mandatory;
 pub mod oracle_writing;
 pub mod random;
+pub mod recorded;
 pub mod replay;
 pub mod rows;
 pub mod sides;

@@ -1,6 +1,6 @@
 //! Our side: the C interface of libnas.a.
 
-use crate::interface::{Findings, Lent, Mandatory, Side, Values, Writing};
+use crate::interface::{Editing, Findings, Lent, Mandatory, Side, State, Used, Values, Writing};
 
 unsafe extern "C" {
     fn nas_generic_ie_length(octets: *const u8, octets_len: usize, tlve_start: u8, values: *mut Values) -> u32;
@@ -48,6 +48,29 @@ unsafe extern "C" {
         kept_len: usize,
         order: *mut u8,
         order_len: usize,
+        values: *mut Values,
+    ) -> u32;
+    fn nas_next(
+        part: *const u8,
+        part_len: usize,
+        table: *const u32,
+        table_len: usize,
+        tlve_start: u8,
+        option: u8,
+        state: *mut State,
+        values: *mut Values,
+    ) -> u32;
+    fn nas_show(
+        table: *const u32,
+        table_len: usize,
+        rows: *const u32,
+        rows_len: usize,
+        received: *const u8,
+        received_len: usize,
+        set: *const u8,
+        set_len: usize,
+        used: usize,
+        place: usize,
         values: *mut Values,
     ) -> u32;
 }
@@ -140,6 +163,52 @@ impl Side for Linked {
                 values,
             )
         }
+    }
+
+    fn next(
+        &self,
+        part: &[u8],
+        table: &[u32],
+        tlve_start: u8,
+        option: u8,
+        state: &mut State,
+        values: &mut Values,
+    ) -> u32 {
+        let (part_len, table_len) = (part.len(), table.len());
+        unsafe { nas_next(part.as_ptr(), part_len, table.as_ptr(), table_len, tlve_start, option, state, values) }
+    }
+
+    fn show(
+        &self,
+        table: &[u32],
+        rows: &[u32],
+        received: &[u8],
+        set: Used<'_>,
+        place: usize,
+        values: &mut Values,
+    ) -> u32 {
+        unsafe {
+            nas_show(
+                table.as_ptr(),
+                table.len(),
+                rows.as_ptr(),
+                rows.len(),
+                received.as_ptr(),
+                received.len(),
+                set.octets.as_ptr(),
+                set.octets.len(),
+                set.used,
+                place,
+                values,
+            )
+        }
+    }
+
+    fn editing(&self) -> Option<&dyn Editing> {
+        #[cfg(feature = "linked-editing")]
+        return Some(self);
+        #[cfg(not(feature = "linked-editing"))]
+        None
     }
 
     fn writing(&self) -> Option<&dyn Writing> {

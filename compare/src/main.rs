@@ -46,9 +46,10 @@ fn main() -> ExitCode {
     let mut driver = Driver::new(ours(&tables, model), tables, seed, times);
     println!("{} against {}, seed {seed}, times {times}", driver.ours.name(), driver.right.name());
     let begun = Instant::now();
-    let sections: [(&str, Section); 23] = [
+    let sections: [(&str, Section); 25] = [
         ("examples of document 01", Driver::examples),
         ("recorded answers", Driver::recorded),
+        ("recorded answers of writing", Driver::recorded_writings),
         ("unknown length", Driver::lengths),
         ("table checks", Driver::checks),
         ("index", Driver::indexes),
@@ -59,6 +60,7 @@ fn main() -> ExitCode {
         ("random tables", Driver::random_tables),
         ("numbered tables", Driver::numbered_tables),
         ("long parts", Driver::long_parts),
+        ("one element at a time", Driver::one_by_one),
         ("edits of document 01", Driver::edit_examples),
         ("writing, every short order log", Driver::every_order),
         ("writing, random tables", Driver::writing_random_tables),

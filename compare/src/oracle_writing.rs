@@ -1,9 +1,9 @@
 //! The oracle's writing: the Rust's `encode_optional_ies`, with a `known` closure that carries out the rows of document 01.
 
 use crate::common::{self, IeOrder, NasError, UnknownIes, nas_message};
-use crate::judge_writing::{Filled, place_row, value_of};
+use crate::judge_writing::Filled;
 use crate::oracle::Table;
-use crate::rows::Form;
+use crate::rows::{Form, place_row, value_of};
 
 /// A half octet, as the Rust has it.
 pub(crate) struct Half {
@@ -26,26 +26,22 @@ impl Framed<'_> {
     }
 }
 
-/// Both logs of a message that is written, as the Rust has them, and which of its places are present.
+/// Both logs of a message that is written, as the Rust has them.
 pub struct Logs {
     kept: UnknownIes,
     order: IeOrder,
-    present: u128,
 }
 
 impl Logs {
-    pub fn new(table: &Table, filled: &Filled<'_>) -> Self {
-        let present = |place: usize| u128::from(place_row(filled.rows, place).source != 0) << place;
-        Self {
-            kept: UnknownIes::from_octets(filled.kept.to_vec()),
-            order: IeOrder::from_octets(filled.order.to_vec()),
-            present: (0..table.places()).map(present).sum(),
-        }
+    pub fn new(filled: &Filled<'_>) -> Self {
+        Self { kept: UnknownIes::from_octets(filled.kept.to_vec()), order: IeOrder::from_octets(filled.order.to_vec()) }
     }
 }
 
 /// `encode_optional_ies` over the rows of a table, behind what is in `buffer`.
 pub fn write_into(table: &Table, filled: &Filled<'_>, logs: &Logs, buffer: &mut Vec<u8>) {
+    let present = |place: usize| u128::from(place_row(filled.rows, place).source != 0) << place;
+    let present = (0..table.places()).map(present).sum();
     let known = |buffer: &mut Vec<u8>, iei: u8| -> common::Result<()> {
         let Some(at) = common::place(table.index(), iei) else {
             return Ok(());
@@ -72,13 +68,13 @@ pub fn write_into(table: &Table, filled: &Filled<'_>, logs: &Logs, buffer: &mut 
         Ok(())
     };
     let written =
-        common::encode_optional_ies(buffer, table.ieis(), table.index(), logs.present, &logs.kept, &logs.order, &known);
+        common::encode_optional_ies(buffer, table.ieis(), table.index(), present, &logs.kept, &logs.order, &known);
     assert!(written.is_ok(), "values that fit their forms are written");
 }
 
 /// The same into octets of its own.
 pub fn write(table: &Table, filled: &Filled<'_>) -> Vec<u8> {
     let mut buffer = Vec::new();
-    write_into(table, filled, &Logs::new(table, filled), &mut buffer);
+    write_into(table, filled, &Logs::new(filled), &mut buffer);
     buffer
 }

@@ -1,5 +1,6 @@
 //! Tables as they are lent. Optional: nine numbers a row, namely how many IEIs, four IEIs, the code of the form, the size of a
-//! fixed form, the least whole length and the set. Mandatory: the last four. Table P and the six real tables by their numbers.
+//! fixed form, the least whole length and the set. Mandatory: the last four. The row of a place: source, start and length of its
+//! value. Table P and the six real tables by their numbers.
 
 use std::path::PathBuf;
 use std::process::exit;
@@ -81,6 +82,30 @@ pub fn mandatory_rows_of(table: &[u32]) -> Vec<MandatoryRow> {
         set: row[3],
     })
     .collect()
+}
+
+/// A place row.
+#[derive(Debug, Clone, Copy)]
+pub struct Place {
+    pub source: u32,
+    pub start: u32,
+    pub length: u32,
+}
+
+/// The row of a place.
+pub fn place_row(rows: &[u32], place: usize) -> Place {
+    let row = &rows[PLACE * place..];
+    Place { source: row[0], start: row[1], length: row[2] }
+}
+
+/// The octets of a value, by its well-formed row; none of an absent one.
+pub fn value_of<'a>(place: Place, received: &'a [u8], set: &'a [u8]) -> Option<&'a [u8]> {
+    let octets = match place.source {
+        0 => return None,
+        1 => received,
+        _ => set,
+    };
+    Some(&octets[place.start as usize..][..place.length as usize])
 }
 
 /// The numbers of a row with these IEIs.

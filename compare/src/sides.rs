@@ -4,7 +4,9 @@ use std::cell::RefCell;
 use std::rc::Rc;
 
 use crate::cores::{ByModel, Core};
-use crate::interface::{Edited, Findings, Lent, Mandatory, Message, Notes, Side, Used, Values, Writing};
+use crate::interface::{
+    Edited, Editing, Findings, Lent, Mandatory, Message, Notes, Side, State, Used, Values, Writing,
+};
 use crate::judge::{self, Answer, Log, Model, Room, answer};
 use crate::judge_findings;
 use crate::judge_mandatory;
@@ -168,6 +170,43 @@ impl<C: Core> Side for Judged<C> {
         }
     }
 
+    fn next(
+        &self,
+        part: &[u8],
+        table: &[u32],
+        tlve_start: u8,
+        option: u8,
+        state: &mut State,
+        values: &mut Values,
+    ) -> u32 {
+        let [at, low, high, highest] = *state;
+        let met = u128::from(high) << 64 | u128::from(low);
+        let bits = std::array::from_fn(|place| met >> place & 1 == 1);
+        let mut after = judge::State { at: at as usize, met: bits, highest: highest as usize };
+        let said = judge::next(table, part, || self.made(table).model.next(part, tlve_start, option != 0, &mut after));
+        if said.is_ok() {
+            let met = (0..128).filter(|&place| after.met[place]).fold(0u128, |met, place| met | 1 << place);
+            *state = [after.at as u64, met as u64, (met >> 64) as u64, after.highest as u64];
+        }
+        asked(said, values)
+    }
+
+    fn show(
+        &self,
+        table: &[u32],
+        rows: &[u32],
+        received: &[u8],
+        set: Used<'_>,
+        place: usize,
+        values: &mut Values,
+    ) -> u32 {
+        asked(judge_writing::showing(Edit { table, rows, received, set, place }), values)
+    }
+
+    fn editing(&self) -> Option<&dyn Editing> {
+        Some(self)
+    }
+
     fn writing(&self) -> Option<&dyn Writing> {
         Some(self)
     }
@@ -201,7 +240,9 @@ impl<C: Core> Writing for Judged<C> {
             Err(refusal) => give(refusal, values),
         }
     }
+}
 
+impl<C: Core> Editing for Judged<C> {
     fn set(&self, table: &[u32], edited: Edited<'_>, value: &[u8], values: &mut Values) -> u32 {
         let Edited { rows, received, set, used, place } = edited;
         let edit = Edit { table, rows, received, set: Used { octets: set, used }, place };

@@ -70,14 +70,18 @@ impl Call {
             Call::KeptPush { log, data, .. } => vec![data.len(), log.len()],
             Call::KeptCount { log, .. } | Call::KeptGet { log, .. } | Call::KeptClear { log, .. } => vec![log.len()],
             Call::OrderPush { log, .. } | Call::OrderGet { log, .. } => vec![log.len()],
-            Call::Read { part, table, .. } => vec![part.len(), table.len().div_ceil(WIDTH)],
+            Call::Read { part, table, .. } | Call::Next { part, table, .. } => {
+                vec![part.len(), table.len().div_ceil(WIDTH)]
+            }
             Call::ReadBy { part, .. } => vec![part.len()],
             Call::Write { table, filled, .. } => [filled.lengths(), vec![table.len().div_ceil(WIDTH)]].concat(),
             Call::WriteBy { filled, .. } => filled.lengths(),
             Call::Set { table, places, value, .. } => {
                 [places.lengths(), vec![table.len().div_ceil(WIDTH), value.len()]].concat()
             }
-            Call::Clear { table, places, .. } => [places.lengths(), vec![table.len().div_ceil(WIDTH)]].concat(),
+            Call::Clear { table, places, .. } | Call::Show { table, places, .. } => {
+                [places.lengths(), vec![table.len().div_ceil(WIDTH)]].concat()
+            }
             Call::ReadMandatory { part, table, .. } => vec![part.len(), table.len().div_ceil(MANDATORY_WIDTH)],
             Call::ReadMandatoryBy { part, .. } => vec![part.len()],
             Call::WriteMandatory { table, places, .. } => {
@@ -105,11 +109,14 @@ impl Call {
             | Call::KeptClear { log, used }
             | Call::OrderPush { log, used, .. }
             | Call::OrderGet { log, used, .. } => drop_used(log, used, at, count),
-            Call::Read { table, .. } if list == 1 => drop_units(table, WIDTH, at, count),
-            Call::Read { part, .. } | Call::ReadBy { part, .. } => drop_units(part, 1, at, count),
+            Call::Read { table, .. } | Call::Next { table, .. } if list == 1 => drop_units(table, WIDTH, at, count),
+            Call::Read { part, .. } | Call::ReadBy { part, .. } | Call::Next { part, .. } => {
+                drop_units(part, 1, at, count)
+            }
             Call::Write { filled, .. } | Call::WriteBy { filled, .. } if list < 4 => filled.drop_at(list, at, count),
             Call::Set { places, .. }
             | Call::Clear { places, .. }
+            | Call::Show { places, .. }
             | Call::WriteMandatory { places, .. }
             | Call::WriteMandatoryBy { places, .. }
                 if list < 2 =>
@@ -125,7 +132,7 @@ impl Call {
             Call::Findings { table, .. } => drop_units(table, WIDTH, at, count),
             Call::WriteMandatory { table, places, .. } => places.drop_rows(table, MANDATORY_WIDTH, at, count),
             Call::Set { value, .. } if list == 3 => drop_units(value, 1, at, count),
-            Call::Set { table, places, .. } | Call::Clear { table, places, .. } => {
+            Call::Set { table, places, .. } | Call::Clear { table, places, .. } | Call::Show { table, places, .. } => {
                 places.drop_rows(table, WIDTH, at, count)
             }
         }
@@ -140,7 +147,7 @@ impl Call {
         while smaller {
             smaller = false;
             for list in 0..call.lengths().len() {
-                let mut count = call.lengths()[list].div_ceil(2);
+                let mut count = call.lengths()[list];
                 while count > 0 {
                     let mut at = 0;
                     while at + count <= call.lengths()[list] && Instant::now() < end {

@@ -13,6 +13,7 @@ use compare::gen_parts::{self, Size};
 use compare::gen_tables;
 use compare::judge::{Model, Room, first_bad};
 use compare::random::Random;
+use compare::recorded::string;
 use compare::rows::{PLACE, START, Tables, WIDTH, numbered_or_exit};
 use compare::sides::Judged;
 
@@ -300,15 +301,7 @@ impl Recorder {
         }
     }
 
-    /// Octets: their head, then how often one more octet follows it, and that octet.
     fn string(&mut self, octets: &[u8]) {
-        let last = octets.last().copied().unwrap_or(0);
-        let run = octets.iter().rev().take_while(|&&octet| octet == last).count();
-        let pad = if run < 8 { 0 } else { run.min(65_535) };
-        let head = &octets[..octets.len() - pad];
-        self.list.extend((head.len() as u16).to_be_bytes());
-        self.list.extend(head);
-        self.list.extend((pad as u16).to_be_bytes());
-        self.list.push(if pad > 0 { last } else { 0 });
+        self.list.extend(string(octets));
     }
 }

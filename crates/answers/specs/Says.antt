@@ -6,6 +6,7 @@ use mathlib.Core.Option.{Option, none, some}
 use lib.ListN.{length, set}
 use Rattle.definitions.specs.Basic.{Answer, answer}
 use Rattle.definitions.specs.Reading.{Read}
+use Rattle.definitions.specs.Values.{Edited}
 use Rattle.length.specs.declared.Length.{Length}
 
 -- values stored one after the other from a place on; every other place is as it was. The five lent places are known by their
@@ -28,12 +29,18 @@ pub record Says (a : Answer) (number : ℕ) (before after : List ℕ) : Type 0 w
   pub numbered : number ≡ a .number
   pub valued : after ≡ put (told a) before
 
--- an answer, and a lent log afterwards, are those of a reading: number and values, rows and both logs
+-- an answer, and lent memory afterwards, are those of a reading: number and values, rows and both logs
 pub record ReadSays (r : Read) (number : ℕ) (before after rows kept order : List ℕ) : Type 0 where
   pub says : Says (r .said) number before after
   pub rows-are : rows ≡ r .rows
   pub kept-is : kept ≡ r .kept
   pub order-is : order ≡ r .order
+
+-- the same of an edit: number and values, rows and set octets
+pub record EditSays (e : Edited) (number : ℕ) (before after rows set : List ℕ) : Type 0 where
+  pub says : Says (e .said) number before after
+  pub rows-are : rows ≡ e .rows
+  pub set-is : set ≡ e .set
 
 -- the answer of a table check: passed, or refusal 4 with the first bad row
 abbrev pub checkAnswer : Option ℕ → Answer

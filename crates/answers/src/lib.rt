@@ -1,5 +1,6 @@
 // Each answer as document 01's number, which is returned, and its values in five lent places: how many there are, then the
 // values in document 01's order. The places behind them stay as they were.
+use edits::Edited;
 use elements::element::State;
 use elements::next::NextElement;
 use kept::Counted;
@@ -18,6 +19,7 @@ ghost use mathlib.Core.Path.{_≡_};
 ghost use mathlib.Core.List.{[], _∷_};
 ghost use Rattle.definitions.specs.Basic.{answer};
 ghost use Rattle.definitions.specs.Logs.{orderEntry};
+ghost use Rattle.edits.specs.Edits.{editedAs};
 ghost use Rattle.kept.specs.Kept.{pushedAs, countedAs, gotAs};
 ghost use Rattle.order.specs.Order.{placedAs, entryAs};
 ghost use Rattle.reading.specs.Decodes.{roomAs, decodedAs};
@@ -205,6 +207,21 @@ pub fn shown_said(shown: Shown, values: &mut [u64; 5]) -> u32
         Shown::NoRoom => one(2, 1, values),
         Shown::Malformed => one(11, 3, values),
         Shown::Unfit(place) => one(10, place as u64, values),
+    }
+}
+
+pub fn edited_said(edited: Edited, values: &mut [u64; 5]) -> u32
+    ensures { λ r. ⌜ Says (editedAs edited) r (now (values .entry)) (now (values .exit)) ⌝ }
+{
+    match edited {
+        Edited::Set(used) => one(0, used as u64, values),
+        Edited::Cleared => none(0, values),
+        Edited::BadTable(row) => one(4, row as u64, values),
+        Edited::TooLong => none(3, values),
+        Edited::NoRoom => one(2, 1, values),
+        Edited::Malformed => one(11, 3, values),
+        Edited::Unfit(place) => one(10, place as u64, values),
+        Edited::NoSet(need) => one(12, need as u64, values),
     }
 }
 

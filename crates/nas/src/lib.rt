@@ -7,6 +7,7 @@ use crate::entries::push_by;
 use answers::checked_said;
 use answers::counted_said;
 use answers::decoded_said;
+use answers::edited_said;
 use answers::entry_said;
 use answers::got_said;
 use answers::length_said;
@@ -14,6 +15,8 @@ use answers::next_said;
 use answers::place_said;
 use answers::pushed_said;
 use answers::shown_said;
+use edits::clear_place;
+use edits::set_place;
 use elements::element::State;
 use elements::next::next_element;
 use kept::kept_clear;
@@ -38,13 +41,13 @@ ghost use Rattle.definitions.specs.Logs.{keptPush, keptCount, keptGet, keptClea
 ghost use Rattle.definitions.specs.Mandatory.{mandatoryRowsOf, firstBadMandatory};
 ghost use Rattle.definitions.specs.Reading.{reading, readingBy};
 ghost use Rattle.definitions.specs.Rows.{rowsOf, firstBad, index as indexOf, placeIn};
-ghost use Rattle.definitions.specs.Values.{showing};
+ghost use Rattle.definitions.specs.Values.{showing, setting, clearing};
 ghost use Rattle.kept.specs.Kept.{usedOf};
 ghost use Rattle.reading.specs.Decodes.{lentOf};
 ghost use Rattle.elements.specs.Nexts.{nextOf};
 ghost use Rattle.nas.specs.Entries.{orderPushBy};
 ghost use Rattle.answers.specs.Nexts.{stateBy, NextSays};
-ghost use Rattle.answers.specs.Says.{Says, ReadSays, checkAnswer, placeAnswer, lengthAnswer};
+ghost use Rattle.answers.specs.Says.{Says, ReadSays, EditSays, checkAnswer, placeAnswer, lengthAnswer};
 
 // The length of an unknown element from the octets from its first octet on: 0 and the length, or 1, cut short.
 #[no_mangle]
@@ -233,4 +236,41 @@ pub extern "C" fn nas_show<'a>(
     ensures { λ r. ⌜ Says (showing (now (table .entry)) (now (rows .entry)) (now (received .entry)) (usedOf (now (set .entry)) used) place) r (now (values .entry)) (now (values .exit)) ⌝ }
 {
     shown_said(show(table, rows, received, set, used, place), values)
+}
+
+// A value for a place, behind the set octets that are used: 0 and the set octets then used; 4 and the first bad row; 3; 2 and 1;
+// 11 and 3; 10 and the place; 12 and the set octets needed.
+#[no_mangle]
+pub extern "C" fn nas_set(
+    table: &[u32],
+    rows: &mut [u32],
+    received: &[u8],
+    set: &mut [u8],
+    used: usize,
+    place: usize,
+    value: &[u8],
+    values: &mut [u64; 5],
+) -> u32
+    ensures { λ r. ⌜ EditSays (setting (now (table .entry)) (now (rows .entry)) (now (received .entry)) (usedOf (now (set .entry)) used) place (now (value .entry))) r (now (values .entry)) (now (values .exit)) (now (rows .exit)) (now (set .exit)) ⌝ }
+{
+    edited_said(
+        set_place(table, rows, received, set, used, place, value),
+        values,
+    )
+}
+
+// A place without a value: 0; 4 and the first bad row; 3; 2 and 1; 11 and 3.
+#[no_mangle]
+pub extern "C" fn nas_clear(
+    table: &[u32],
+    rows: &mut [u32],
+    received: &[u8],
+    set: &[u8],
+    used: usize,
+    place: usize,
+    values: &mut [u64; 5],
+) -> u32
+    ensures { λ r. ⌜ EditSays (clearing (now (table .entry)) (now (rows .entry)) (now (received .entry)) (usedOf (now (set .entry)) used) place) r (now (values .entry)) (now (values .exit)) (now (rows .exit)) (now (set .entry)) ⌝ }
+{
+    edited_said(clear_place(table, rows, received, set, used, place), values)
 }

@@ -1,4 +1,4 @@
--- Showing a value: a row by its source, every row in turn, the checks in their order.
+-- Showing a value: a row by its source, every row in turn, and what is shown after the checks.
 -- Each law settles the tests before it.
 use Prim.Native.Nat.{ℕ, zero, suc, _+_, _*_, _-_, _≤_, _<_}
 use native.Mathlib.Omega.{arith}
@@ -6,16 +6,18 @@ use native.Mathlib.Numerals.{add-one}
 use mathlib.Core.Path.{_≡_, refl, ap, _∙_}
 use mathlib.Core.List.{List, [], _∷_}
 use mathlib.Core.Bool.{Bool, true, false, _&&_, _||_, not}
-use mathlib.Core.Option.{none, some}
+use mathlib.Core.Option.{Option, none, some}
 use borrow.Author.Tests.{le-leb, lt-leb, lt-ltb, le-ltb}
 use lib.ListN.{length, take, drop}
 use lib.Seq.{take-nil, drop-nil}
 use lib.Dec.{leb, eqb}
-use Rattle.definitions.specs.Basic.{pick, isNone, answer, refuse, refusal, unless, Used, content, tooLong}
+use Rattle.definitions.specs.Basic.{pick, isNone, Answer, answer, refuse, refusal, unless, Used, content, tooLong}
 use Rattle.definitions.specs.Rows.{Form, rowsOf, rowAt, form, firstBad}
 use Rattle.definitions.specs.Values.{Octets, Value, valueAt, present, sourceOf, octetsAt, goodValue, firstFrom, badRows, fits, unfitAt, valuesTooLong, placeChecks, shownBy, showing}
+use Rattle.values.specs.Checks.{longWith}
 use Rattle.values.specs.Shows.{shownRow}
 use Rattle.values.specs.Rows.{sourcesOf}
+use Rattle.values.proofs.Checking.{refusal-append, long-none}
 
 -- ---- a row by its source
 
@@ -91,24 +93,7 @@ module _ (f : Form) (o : Octets) (v : Value) (k : ℕ) where
   unfolding shownRow present
   shown-fit h e = rw (le-leb 1 (v .source) h, e)
 
--- ---- the checks in their order
-
-module _ (received : List ℕ) (set : Used) where
-  pub long-received : 65535 < length received → valuesTooLong received set ≡ true
-  unfolding valuesTooLong
-  long-received h = rw (lt-ltb 65535 (length received) h)
-
-  pub long-buffer : length received ≤ 65535 → length (set .buffer) < set .used → valuesTooLong received set ≡ true
-  unfolding valuesTooLong tooLong
-  long-buffer h b = rw (le-ltb 65535 (length received) h, lt-ltb (length (set .buffer)) (set .used) b)
-
-  pub long-used : length received ≤ 65535 → set .used ≤ length (set .buffer) → 65535 < set .used → valuesTooLong received set ≡ true
-  unfolding valuesTooLong tooLong
-  long-used h b u = rw (le-ltb 65535 (length received) h, le-ltb (length (set .buffer)) (set .used) b, lt-ltb 65535 (set .used) u)
-
-  pub not-long : length received ≤ 65535 → set .used ≤ length (set .buffer) → set .used ≤ 65535 → valuesTooLong received set ≡ false
-  unfolding valuesTooLong tooLong
-  not-long h b u = rw (le-ltb 65535 (length received) h, le-ltb (length (set .buffer)) (set .used) b, le-ltb 65535 (set .used) u)
+-- ---- after the checks
 
 by-tests :
     (b c : Bool) (k : ℕ) (s : List ℕ)
@@ -119,40 +104,23 @@ by-tests true true k s = refl
 by-tests true false k s = refl
 by-tests false c k s = refl
 
--- a table that fails is refused before everything else
-pub show-table :
-    (table rows received : List ℕ) (set : Used) (k j : ℕ)
-    → firstBad (rowsOf table) ≡ some j
-    → showing table rows received set k ≡ answer 4 (j ∷ [])
-unfolding showing placeChecks refusal
-show-table table rows received set k j e = rw e
+module _ (table rows received : List ℕ) (set : Used) (k : ℕ) where
+  -- the checks that showing shares, with no set octet more
+  abbrev checks : List (Option Answer)
+  checks = placeChecks (rowsOf table) (longWith received set 0) (sourcesOf received (content set)) rows k
 
--- under a table that passes
-module _ (table rows received : List ℕ) (set : Used) (k : ℕ) (p : firstBad (rowsOf table) ≡ none) where
-  pub show-long : valuesTooLong received set ≡ true → showing table rows received set k ≡ answer 3 []
-  unfolding showing placeChecks refusal
-  show-long e = rw (p, e)
+  pub show-refused : {a : Answer} → refusal checks ≡ some a → showing table rows received set k ≡ a
+  unfolding showing
+  show-refused e = rw (← long-none received set, refusal-append checks) (rw e)
 
-  module _ (e : valuesTooLong received set ≡ false) where
-    pub show-room : length rows < 3 * length (rowsOf table) → showing table rows received set k ≡ answer 2 (1 ∷ [])
-    unfolding showing placeChecks refusal
-    show-room h = rw (p, e, lt-ltb (length rows) (3 * length (rowsOf table)) h)
-
-    module _ (h : 3 * length (rowsOf table) ≤ length rows) where
-      pub show-bad :
-          badRows (sourcesOf received (content set)) rows (length (rowsOf table)) || leb (length (rowsOf table)) k ≡ true
-          → showing table rows received set k ≡ answer 11 (3 ∷ [])
-      unfolding showing placeChecks refusal
-      show-bad b = rw (p, e, le-ltb (length rows) (3 * length (rowsOf table)) h, b)
-
-      pub show-good :
-          badRows (sourcesOf received (content set)) rows (length (rowsOf table)) || leb (length (rowsOf table)) k ≡ false
-          → showing table rows received set k ≡ shownRow (form (rowAt (rowsOf table) k)) (sourcesOf received (content set)) (valueAt rows k) k
-      unfolding showing placeChecks refusal unfitAt shownRow
-      show-good b =
-          rw (p, e, le-ltb (length rows) (3 * length (rowsOf table)) h, b)
-          (by-tests
-          (present (valueAt rows k))
-          (fits (form (rowAt (rowsOf table) k)) (valueAt rows k .source) (octetsAt (sourcesOf received (content set)) (valueAt rows k)))
-          k
-          (shownBy (form (rowAt (rowsOf table) k)) (sourcesOf received (content set)) (valueAt rows k)))
+  pub show-good : refusal checks ≡ none
+      → showing table rows received set k ≡ shownRow (form (rowAt (rowsOf table) k)) (sourcesOf received (content set)) (valueAt rows k) k
+  unfolding showing unfitAt shownRow
+  show-good e =
+      rw (← long-none received set, refusal-append checks)
+      (rw e
+      (by-tests
+      (present (valueAt rows k))
+      (fits (form (rowAt (rowsOf table) k)) (valueAt rows k .source) (octetsAt (sourcesOf received (content set)) (valueAt rows k)))
+      k
+      (shownBy (form (rowAt (rowsOf table) k)) (sourcesOf received (content set)) (valueAt rows k))))

@@ -1,15 +1,13 @@
 // Showing the value of a place: where its row says it is, after the checks of the table and of every row.
+use crate::check::PlaceCheck;
+use crate::check::check_place;
 use crate::row::ValueRow;
-use crate::row::any_bad;
 use crate::row::does_fit;
 use crate::row::row_at;
 use crate::row::value_octets;
-use octets::MOST_OCTETS;
-use rows::check::Checked;
-use rows::check::check_table;
+use octets::part;
 use rows::columns::Form;
 use rows::columns::form_at;
-use rows::columns::places;
 ghost use mathlib.Core.Path.{_≡_};
 ghost use mathlib.Core.Option.{none};
 ghost use Rattle.definitions.specs.Rows.{rowsOf, firstBad};
@@ -55,47 +53,6 @@ fn show_row<'a>(form: Form, row: ValueRow, received: &'a [u8], set: &'a [u8], pl
     }
 }
 
-// The same after the checks of the octets and the rows, under a table that passes.
-fn show_checked<'a>(
-    table: &[u32],
-    rows: &[u32],
-    received: &'a [u8],
-    set: &'a [u8],
-    used: usize,
-    place: usize,
-) -> Shown
-    requires { ⌜ firstBad (rowsOf (now table)) ≡ none ⌝ }
-    ensures { λ r. ⌜ shownAs r ≡ showing (now (table .entry)) (now (rows .entry)) (now (received .entry)) (usedOf (now (set .entry)) used) place ⌝ }
-{
-    if received.len() > MOST_OCTETS {
-        return Shown::TooLong;
-    }
-    if used > set.len() {
-        return Shown::TooLong;
-    }
-    if used > MOST_OCTETS {
-        return Shown::TooLong;
-    }
-    let n = places(table);
-    if rows.len() < 3 * n {
-        return Shown::NoRoom;
-    }
-    let content = &set[..used];
-    if any_bad(rows, n, received, content) {
-        return Shown::Malformed;
-    }
-    if place >= n {
-        return Shown::Malformed;
-    }
-    show_row(
-        form_at(table, place),
-        row_at(rows, place),
-        received,
-        content,
-        place,
-    )
-}
-
 // The value of a place: its row is read from the lent rows; the received octets, and the set octets that are used.
 pub fn show<'a>(
     table: &[u32],
@@ -107,8 +64,17 @@ pub fn show<'a>(
 ) -> Shown
     ensures { λ r. ⌜ shownAs r ≡ showing (now (table .entry)) (now (rows .entry)) (now (received .entry)) (usedOf (now (set .entry)) used) place ⌝ }
 {
-    match check_table(table) {
-        Checked::Passes => show_checked(table, rows, received, set, used, place),
-        Checked::BadRow(k) => Shown::BadTable(k),
+    match check_place(table, rows, received, set, used, 0, place) {
+        PlaceCheck::Passes => show_row(
+            form_at(table, place),
+            row_at(rows, place),
+            received,
+            part(set, 0, used),
+            place,
+        ),
+        PlaceCheck::BadTable(k) => Shown::BadTable(k),
+        PlaceCheck::TooLong => Shown::TooLong,
+        PlaceCheck::NoRoom => Shown::NoRoom,
+        PlaceCheck::Malformed => Shown::Malformed,
     }
 }
