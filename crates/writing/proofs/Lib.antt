@@ -1,0 +1,5 @@
+-- Laws that the proofs of this crate cite.
+pub mod Putting
+pub mod Cursor
+pub mod Places
+pub mod LogSteps
