@@ -16,16 +16,13 @@ use Rattle.definitions.specs.Values.{valueAt, present, octetsAt}
 use Rattle.definitions.specs.Logs.{Placed, knownIei, notKnown, ignored}
 use Rattle.definitions.specs.Writing.{Filled, encoded, elementAt, logged, addedFrom, below, notBelow, firsts, walked, written}
 use Rattle.definitions.proofs.RowLaws.{listed}
-use Rattle.writing.specs.Walks.{addedIn, addedOctets, nextOf, restOf, knownPiece, knownPlace, pieceOf, placeAfter, keptAfter, leftOf}
+use Rattle.writing.specs.Walks.{addedIn, addedPiece, addedOctets, nextOf, restOf, knownPiece, knownPlace, pieceOf, placeAfter, keptAfter, leftOf}
 
 module _ (m : Filled) (s : ℕ) where
   -- ---- a place at a time
 
-  abbrev here : ℕ → List ℕ
-  here k = elementAt m k (firstIei (m .table) k)
-
-  added-step : (k n : ℕ) → firsts m (addedIn m s k (suc n)) ≡ pick (bit k s) [] (here k) ++ firsts m (addedIn m s (suc k) n)
-  unfolding addedIn firsts elementAt
+  added-step : (k n : ℕ) → firsts m (addedIn m s k (suc n)) ≡ addedPiece m s k ++ firsts m (addedIn m s (suc k) n)
+  unfolding addedPiece addedIn firsts elementAt
   added-step k n = by (present (valueAt (m .rows) k)) (bit k s) refl
     where
       e : List ℕ
@@ -40,21 +37,12 @@ module _ (m : Filled) (s : ℕ) where
       by false true q = refl
       by false false q = refl
 
-  module _ (k to : ℕ) (h : k < to) where
-    next : to - k ≡ suc (to - (k + 1))
-    next = omega arith
-
-    pub added-here : bit k s ≡ false → addedOctets m s k to ≡ here k ++ addedOctets m s (k + 1) to
-    unfolding addedOctets
-    added-here e =
-        ap (λ (n : ℕ). firsts m (addedIn m s k n)) next ∙ added-step k (to - (k + 1))
-        ∙ ap₂ (λ (b : Bool) (j : ℕ). pick b [] (here k) ++ firsts m (addedIn m s j (to - (k + 1)))) e (sym (add-one k))
-
-    pub added-passed : bit k s ≡ true → addedOctets m s k to ≡ addedOctets m s (k + 1) to
-    unfolding addedOctets
-    added-passed e =
-        ap (λ (n : ℕ). firsts m (addedIn m s k n)) next ∙ added-step k (to - (k + 1))
-        ∙ ap₂ (λ (b : Bool) (j : ℕ). pick b [] (here k) ++ firsts m (addedIn m s j (to - (k + 1)))) e (sym (add-one k))
+  pub added-next : (k to : ℕ) → k < to → addedOctets m s k to ≡ addedPiece m s k ++ addedOctets m s (k + 1) to
+  unfolding addedOctets
+  added-next k to h =
+      let next : to - k ≡ suc (to - (k + 1)) = omega arith in
+      ap (λ (n : ℕ). firsts m (addedIn m s k n)) next ∙ added-step k (to - (k + 1))
+      ∙ ap (λ (j : ℕ). addedPiece m s k ++ firsts m (addedIn m s j (to - (k + 1)))) (sym (add-one k))
 
   pub added-end : (k to : ℕ) → to ≤ k → addedOctets m s k to ≡ []
   unfolding addedOctets addedIn firsts

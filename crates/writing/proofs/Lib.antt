@@ -3,3 +3,5 @@ pub mod Putting
 pub mod Cursor
 pub mod Places
 pub mod LogSteps
+pub mod Tallying
+pub mod Walking

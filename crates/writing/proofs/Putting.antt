@@ -74,6 +74,12 @@ put-both {at = at} a b {d = d} h p q =
     let l = put-step a b h (put-begun at (a ++ b) d) p in
     put-ended (put-step b [] h (put-as (sym (append-nil b)) l) q)
 
+-- with room for both, the second has room
+pub second-room : {at mid : ℕ} (a b : List ℕ) {d d′ : List ℕ} → at + length (a ++ b) ≤ length d → PutAt at a d mid d′ → mid + length b ≤ length d′
+second-room {at = at} a b {d = d} h p =
+    let l = put-step a b h (put-begun at (a ++ b) d) p in
+    omega (arith, l .long, l .room)
+
 -- ---- values
 
 pub writes-fit : (f : Form) (source : ℕ) (s : List ℕ) (iei : ℕ) → fits f source s ≡ true → Bears f iei → Writes f iei s
@@ -85,3 +91,10 @@ writes-fit half source s iei h b =
 writes-fit (fixed n) source s iei h b = tt
 writes-fit tlv source s iei h b = leb-true (length s) 255 h
 writes-fit tlv-e source s iei h b = leb-true (length s) 65535 h
+
+-- an IEI of a form is an octet
+pub bears-octet : (f : Form) (iei : ℕ) → Bears f iei → iei < 256
+bears-octet half iei b = omega (arith, b .1)
+bears-octet (fixed n) iei b = omega arith
+bears-octet tlv iei b = omega arith
+bears-octet tlv-e iei b = omega arith

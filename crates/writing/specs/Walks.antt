@@ -6,7 +6,7 @@ use mathlib.Core.Bool.{Bool, true, false, _&&_, not}
 use mathlib.Core.Option.{Option, none, some}
 use lib.ListN.{length, drop}
 use Rattle.definitions.specs.Basic.{pick, bit, overAt}
-use Rattle.definitions.specs.Rows.{Row, rowsOf, firstBad, placeOf, index}
+use Rattle.definitions.specs.Rows.{Row, rowsOf, firstIei, firstBad, placeOf, index}
 use Rattle.definitions.specs.Values.{valueAt, present, unfitAt}
 use Rattle.definitions.specs.Logs.{Placed, knownIei, notKnown, ignored, keptList, orderList, orEmpty}
 use Rattle.definitions.specs.Writing.{Filled, elementAt, firsts, walked}
@@ -31,6 +31,10 @@ pub record Writable (table rows received set : List ℕ) : Type 0 where
 unfoldable pub addedIn : Filled → ℕ → ℕ → ℕ → List ℕ
 addedIn m set k zero = []
 addedIn m set k (suc n) = pick (present (valueAt (m .rows) k) && not (bit k set)) (k ∷ addedIn m set (suc k) n) (addedIn m set (suc k) n)
+
+-- the element of a place, if it is an added one
+unfoldable pub addedPiece : Filled → ℕ → ℕ → List ℕ
+addedPiece m set k = pick (bit k set) [] (elementAt m k (firstIei (m .table) k))
 
 -- the elements of those from a place on, up to another
 unfoldable pub addedOctets : Filled → ℕ → ℕ → ℕ → List ℕ

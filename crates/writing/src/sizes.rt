@@ -28,7 +28,7 @@ ghost use Rattle.logs.specs.Order.{placedAs};
 ghost use Rattle.message.specs.Seen.{setOf};
 ghost use Rattle.message.specs.Shows.{sourcesOf};
 ghost use Rattle.tables.specs.Forms.{formAs};
-ghost use Rattle.writing.specs.Walks.{filledOf, addedOctets};
+ghost use Rattle.writing.specs.Walks.{filledOf, addedPiece, addedOctets};
 ghost use Rattle.writing.specs.Sizes.{takes, placeLength, mostIe, Sized, Tallied, LoggedBy, KeptBy, fitAs};
 
 // The octets of the elements under logged IEIs so far, and the places of these.
@@ -165,6 +165,24 @@ pub(crate) fn kept_len(kept: &[u8]) -> Kept
     Kept::Octets(octets)
 }
 
+// How many octets a place's element takes if it is an added one.
+fn first_len<'a>(
+    table: &[u32],
+    rows: &[u32],
+    received: &'a [u8],
+    set: &'a [u8],
+    seen: Seen,
+    place: usize,
+) -> usize
+    requires { ⌜ (place < 65536) × (length (now received) ≤ 65535) × (length (now set) ≤ 65535) ⌝ }
+    ensures { λ r. ⌜ (r ≡ length (addedPiece (filledOf (now (table .entry)) (now (rows .entry)) (now (received .entry)) (now (set .entry))) (setOf seen) place)) × (r ≤ mostIe) ⌝ }
+{
+    if seen_has(seen, place) {
+        return 0;
+    }
+    place_len(table, rows, received, set, place)
+}
+
 // The octets of the elements of places that are present and not in the order log.
 pub(crate) fn added_len<'a>(
     table: &[u32],
@@ -180,9 +198,7 @@ pub(crate) fn added_len<'a>(
     let mut octets = 0;
     let mut k = 0;
     while k < n {
-        if !seen_has(seen, k) {
-            octets += place_len(table, rows, received, set, k);
-        }
+        octets += first_len(table, rows, received, set, seen, k);
         k += 1;
     }
     octets

@@ -19,7 +19,7 @@ use tables::rows::places;
 ghost use mathlib.Core.Path.{_≡_};
 ghost use mathlib.Core.List.{[]};
 ghost use mathlib.Core.Option.{some};
-ghost use Prim.Native.Nat.{_+_, _≤_, _<_};
+ghost use Prim.Native.Nat.{_+_, _≤_, _<_, max};
 ghost use lib.ListN.{length};
 ghost use Rattle.definitions.specs.Basic.{over, overAt, concat};
 ghost use Rattle.definitions.specs.Rows.{rowsOf, rowAt, form, placeOf};
@@ -29,7 +29,7 @@ ghost use Rattle.definitions.proofs.RowLaws.{Bears};
 ghost use Rattle.logs.specs.Order.{placedAs};
 ghost use Rattle.message.specs.Seen.{setOf};
 ghost use Rattle.writing.specs.Puts.{PutAt};
-ghost use Rattle.writing.specs.Walks.{filledOf, Writable, IndexIs, addedOctets, KeptAt, keptFrom, nextOf, PutKept, knownPiece, knownPlace, pieceOf, PutEntry, leftOf, Writing};
+ghost use Rattle.writing.specs.Walks.{filledOf, Writable, IndexIs, addedPiece, addedOctets, KeptAt, keptFrom, nextOf, PutKept, knownPiece, knownPlace, pieceOf, PutEntry, leftOf, Writing};
 
 // Where writing is: the position in the output, the position in the kept log, and the place below which every added element is
 // written.
@@ -62,6 +62,27 @@ fn put_place<'a>(
     at + put_ie(&mut output[at..], form, iei, value)
 }
 
+// The element of a place under its first IEI, if it is an added one; the position behind it.
+fn put_first<'a>(
+    table: &[u32],
+    rows: &[u32],
+    received: &'a [u8],
+    set: &'a [u8],
+    seen: Seen,
+    place: usize,
+    output: &mut [u8],
+    at: usize,
+) -> usize
+    requires { ⌜ Writable (now table) (now rows) (now received) (now set) × (place < length (rowsOf (now table))) × (at + length (addedPiece (filledOf (now table) (now rows) (now received) (now set)) (setOf seen) place) ≤ length (now output)) ⌝ }
+    ensures { λ r. ⌜ PutAt at (addedPiece (filledOf (now (table .entry)) (now (rows .entry)) (now (received .entry)) (now (set .entry))) (setOf seen) place) (now (output .entry)) r (now (output .exit)) ⌝ }
+{
+    if seen_has(seen, place) {
+        return at;
+    }
+    let iei = first_iei(table, place) as u8;
+    put_place(table, rows, received, set, place, iei, output, at)
+}
+
 // The added elements from a place on, up to another, ascending and each under its first IEI; the position behind them.
 fn put_added<'a>(
     table: &[u32],
@@ -80,10 +101,7 @@ fn put_added<'a>(
     let mut next = at;
     let mut k = from;
     while k < to {
-        if !seen_has(seen, k) {
-            let iei = first_iei(table, k) as u8;
-            next = put_place(table, rows, received, set, k, iei, output, next);
-        }
+        next = put_first(table, rows, received, set, seen, k, output, next);
         k += 1;
     }
     next
@@ -111,6 +129,16 @@ fn put_kept(kept: &[u8], pen: Pen, output: &mut [u8]) -> Pen
     }
 }
 
+// The higher of two places.
+fn higher(a: usize, b: usize) -> usize
+    ensures { λ r. ⌜ r ≡ max a b ⌝ }
+{
+    if a < b {
+        return b;
+    }
+    a
+}
+
 // A known entry: the added elements of lower place, then its own under the logged IEI; nothing of an IEI without a place.
 fn put_known<'a>(
     table: &[u32],
@@ -133,7 +161,7 @@ fn put_known<'a>(
             Pen {
                 at: next,
                 kept: pen.kept,
-                place: if pen.place < k { k } else { pen.place },
+                place: higher(pen.place, k),
             }
         }
         Place::Nowhere => pen,
