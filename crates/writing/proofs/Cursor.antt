@@ -121,8 +121,10 @@ module _ (m : Filled) (s : ℕ) where
   module _ (passes : firstBad (m .table) ≡ none) (from : ℕ) (inside : from ≤ length (m .table)) (ps : List Placed) (ks : List (List ℕ)) where
     -- over a known entry
     left-known : (i : ℕ) (o : Option ℕ) → placeOf (m .table) i ≡ o
-        → elim o [ none ↦ walked m ps (addedIn m s from (n - from)) ks
-                 | some k ↦ firsts m (below k (addedIn m s from (n - from))) ++ (elementAt m k i ++ walked m ps (notBelow k (addedIn m s from (n - from))) ks) ]
+        → elim o [
+          | none ↦ walked m ps (addedIn m s from (n - from)) ks
+          | some k ↦ firsts m (below k (addedIn m s from (n - from))) ++ (elementAt m k i ++ walked m ps (notBelow k (addedIn m s from (n - from))) ks)
+        ]
         ≡ knownPiece m s i from o ++ walked m ps (addedIn m s (knownPlace from o) (n - knownPlace from o)) ks
     unfolding addedOctets
     left-known i none e = refl

@@ -5,3 +5,4 @@ pub mod Places
 pub mod LogSteps
 pub mod Tallying
 pub mod Walking
+pub mod Encoding

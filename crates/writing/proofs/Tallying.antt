@@ -146,13 +146,13 @@ module _ (m : Filled) (order : List ℕ) where
           few = omega (arith, o .octet, s .few, l .few);
           bad = λ e. l .bad (o .splits ∙ rw e);
           good = λ qs e.
-          let g = l .good (p ∷ qs) (o .splits ∙ rw e) in
-          record {
-            ps = g .ps;
-            is = g .is;
-            sum = omega (arith, s .octets, logged-more m p qs, g .sum);
-            places = λ k. ap (λ (n : ℕ). among k (logged (m .table) qs) || bit k n) (s .set) ∙ sym (places-more (m .table) p qs k (setOf (t .seen))) ∙ g .places k;
-          };
+              let g = l .good (p ∷ qs) (o .splits ∙ rw e) in
+              record {
+                ps = g .ps;
+                is = g .is;
+                sum = omega (arith, s .octets, logged-more m p qs, g .sum);
+                places = λ k. ap (λ (n : ℕ). among k (logged (m .table) qs) || bit k n) (s .set) ∙ sym (places-more (m .table) p qs k (setOf (t .seen))) ∙ g .places k;
+              };
         }
 
     pub logging-ended : length order ≤ at → LoggedBy m order (Logged.Is t)
@@ -188,8 +188,8 @@ module _ (kept : List ℕ) where
           few = omega (arith, k .count, l .few);
           bad = λ q. l .bad (k .splits ∙ rw q);
           good = λ es q.
-          let g = l .good (e ∷ es) (k .splits ∙ rw q) in
-          record { all = g .all; is = g .is; sum = omega (arith, g .sum, length-append e (concat es)) };
+              let g = l .good (e ∷ es) (k .splits ∙ rw q) in
+              record { all = g .all; is = g .is; sum = omega (arith, g .sum, length-append e (concat es)) };
         })
 
     pub keeping-ended : length kept ≤ at → KeptBy kept (Kept.Octets octets)

@@ -62,12 +62,14 @@ module _ (m : Filled) (s : ℕ) (kept : List ℕ) where
       walk-step {r = r} u =
           let n = order-next order at h o f in
           let q : further ≡ leftOf m s (orderFrom order (at + length (orderEntry e))) (r .place) (keptFrom kept (r .kept)) =
-          ap₂ (λ (k : ℕ) (es : List (List ℕ)). leftOf m s (orderFrom order (at + length (orderEntry e))) k es) (sym (u .place)) (sym (u .rest)) in
-          (n .1, record {
-            inside = rw (u .place) (place-inside m s passes (p .place) (w .inside) (orderFrom order (at + length (orderEntry e))) ks e);
-            kept-at = u .kept-at;
-            left = put-as q (put-step piece further (omega arith) begins (u .put));
-          })
+          ap₂ (λ (k : ℕ) (es : List (List ℕ)). leftOf m s (orderFrom order (at + length (orderEntry e))) k es) (sym (u .place)) (sym (u .rest)) in (
+            n .1,
+            record {
+              inside = rw (u .place) (place-inside m s passes (p .place) (w .inside) (orderFrom order (at + length (orderEntry e))) ks e);
+              kept-at = u .kept-at;
+              left = put-as q (put-step piece further (omega arith) begins (u .put));
+            },
+          )
 
     -- the end: the added ones that are left, and the kept ones
     module _ (p : Pen) (out : List ℕ) (w : Writing m s kept whole before [] p out) where
@@ -83,13 +85,13 @@ module _ (m : Filled) (s : ℕ) (kept : List ℕ) where
       pub end-room : p .at + length added ≤ length out
       end-room = put-room added rest (omega arith) ends
 
-      module _ {next : ℕ} {after : List ℕ} (a : PutAt (p .at) added out next after) where
+      module _ {next n : ℕ} {after : List ℕ} (e : n ≡ length (m .table)) (a : PutAt (p .at) (addedOctets m s (p .place) n) out next after) where
         behind : Left 0 whole before next rest after
-        behind = put-step added rest (omega arith) ends a
+        behind = put-step added rest (omega arith) ends (rw e at a)
 
         pub rest-room : next + length rest ≤ length after
         rest-room = omega (arith, behind .room, behind .long)
 
         pub all-put : {final : List ℕ} → final ≡ overAt next rest after → final ≡ over whole before
         unfolding overAt
-        all-put e = e ∙ behind .gives
+        all-put f = f ∙ behind .gives

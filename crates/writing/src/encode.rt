@@ -148,7 +148,17 @@ pub fn encode_optional_ies<'a>(
     let mut index = [255u8; 256];
     match check_and_index(table, &mut index) {
         Checked::Passes => encode_by_index(
-            table, &index, rows, received, set, set_used, kept, kept_used, order, order_used, output,
+            table,
+            &index,
+            rows,
+            received,
+            set,
+            set_used,
+            kept,
+            kept_used,
+            order,
+            order_used,
+            output,
         ),
         Checked::BadRow(k) => Encoded::BadTable(k),
     }

@@ -223,12 +223,7 @@ fn is_unfit<'a>(
     !does_fit(form_at(table, place), row.source, value)
 }
 
-pub(crate) fn first_unfit<'a>(
-    table: &[u32],
-    rows: &[u32],
-    received: &'a [u8],
-    set: &'a [u8],
-) -> Fit
+pub(crate) fn first_unfit<'a>(table: &[u32], rows: &[u32], received: &'a [u8], set: &'a [u8]) -> Fit
     requires { ⌜ length (rowsOf (now table)) ≤ 128 ⌝ }
     ensures { λ r. ⌜ fitAs r ≡ unfit (rowsOf (now (table .entry))) (sourcesOf (now (received .entry)) (now (set .entry))) (now (rows .entry)) ⌝ }
 {

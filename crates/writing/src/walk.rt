@@ -156,7 +156,17 @@ fn put_known<'a>(
 {
     match place_of(index, iei) {
         Place::At(k) => {
-            let at = put_added(table, rows, received, set, seen, pen.place, k, output, pen.at);
+            let at = put_added(
+                table,
+                rows,
+                received,
+                set,
+                seen,
+                pen.place,
+                k,
+                output,
+                pen.at,
+            );
             let next = put_place(table, rows, received, set, k, iei, output, at);
             Pen {
                 at: next,
@@ -215,7 +225,18 @@ fn put_entries<'a>(
     while from < order.len() {
         match front_at(&order[from..]) {
             Front::Is(entry) => {
-                pen = put_entry(table, index, rows, received, set, kept, seen, entry, pen, output);
+                pen = put_entry(
+                    table,
+                    index,
+                    rows,
+                    received,
+                    set,
+                    kept,
+                    seen,
+                    entry,
+                    pen,
+                    output,
+                );
                 from += entry_len(entry);
             }
             Front::Not => {
@@ -253,7 +274,17 @@ pub(crate) fn write<'a>(
     ensures { λ r. ⌜ now (output .exit) ≡ over (leftOf (filledOf (now (table .entry)) (now (rows .entry)) (now (received .entry)) (now (set .entry))) (setOf seen) (orEmpty (orderList (now (order .entry)))) 0 (keptFrom (now (kept .entry)) 0)) (now (output .entry)) ⌝ }
 {
     let pen = put_entries(table, index, rows, received, set, kept, order, seen, output);
-    let at = put_added(table, rows, received, set, seen, pen.place, places(table), output, pen.at);
+    let at = put_added(
+        table,
+        rows,
+        received,
+        set,
+        seen,
+        pen.place,
+        places(table),
+        output,
+        pen.at,
+    );
     put_left(
         kept,
         Pen {

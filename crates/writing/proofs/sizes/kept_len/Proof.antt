@@ -64,7 +64,7 @@ enum-told : tie.Need-enum-told Inv-loop μ-loop
 enum-told c = search needs
 
 returns : tie.Need-returns Inv-loop μ-loop
-returns c = 
+returns c =
     let s = drop (c .before .before .before .before .before .loop .at) (c .before .before .before .before .before .before .before .args .kept .now) in
     c .before .before .before .before .before .loop .inv .bad (kept-stop (c .before .before .before .before .before .before .before .args .kept .now) (c .before .before .before .before .before .loop .at) (c .before .before .before .before .loop-test .taken) (count-not (entryOf s (countAt s)) (sym (c .enum-told .given .1) ∙ rw to-end at (c .before .before .entry-at .ensures))))
 

@@ -104,7 +104,7 @@ same-length c = ap length (written c .octets) ∙ length-overAt (c .before .befo
 
 returns : tie.Need-returns
 unfolding nextOf restOf
-returns c = 
+returns c =
     let n = next (c .before .before .before .before .before) in
     let t = split (c .before .before .before .before .before) in
     record {
@@ -117,7 +117,7 @@ returns c =
 
 returns-2 : tie.Need-returns-2
 unfolding nextOf restOf
-returns-2 c = 
+returns-2 c =
     let a = c .before .before .before .before .before .before .args in
     let s = drop (a .pen .kept) (a .kept .now) in
     let e = count-not (entryOf s (countAt s)) (sym (c .enum-told .given .1) ∙ rw to-end at (c .before .before .entry-at .ensures)) in
