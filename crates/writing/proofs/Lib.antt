@@ -6,3 +6,5 @@ pub mod LogSteps
 pub mod Tallying
 pub mod Walking
 pub mod Encoding
+pub mod SameAnswers
+pub mod WrittenBack

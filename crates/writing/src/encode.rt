@@ -12,13 +12,28 @@ use message::show::any_bad;
 use octets::MOST_OCTETS;
 use tables::check::Checked;
 use tables::check::check_and_index;
+use tables::real::INDEX_P;
+use tables::real::INDEX_PDU_SESSION_ESTABLISHMENT_ACCEPT;
+use tables::real::INDEX_PDU_SESSION_ESTABLISHMENT_REQUEST;
+use tables::real::INDEX_REGISTRATION_ACCEPT;
+use tables::real::INDEX_REGISTRATION_REJECT;
+use tables::real::INDEX_REGISTRATION_REQUEST;
+use tables::real::INDEX_SERVICE_REQUEST;
+use tables::real::PDU_SESSION_ESTABLISHMENT_ACCEPT;
+use tables::real::PDU_SESSION_ESTABLISHMENT_REQUEST;
+use tables::real::REGISTRATION_ACCEPT;
+use tables::real::REGISTRATION_REJECT;
+use tables::real::REGISTRATION_REQUEST;
+use tables::real::SERVICE_REQUEST;
+use tables::real::TABLE_P;
 use tables::rows::places;
 ghost use mathlib.Core.Path.{_≡_};
 ghost use mathlib.Core.Option.{none};
 ghost use Rattle.definitions.specs.Basic.{tooLong};
 ghost use Rattle.definitions.specs.Rows.{rowsOf, firstBad};
-ghost use Rattle.definitions.specs.Writing.{writing};
+ghost use Rattle.definitions.specs.Writing.{writing, writingBy};
 ghost use Rattle.logs.specs.Kept.{usedOf};
+ghost use Rattle.tables.specs.Real.{realOf};
 ghost use Rattle.writing.specs.Walks.{IndexIs};
 ghost use Rattle.writing.specs.Encodes.{Encodes, usedUp, Limited};
 
@@ -161,5 +176,300 @@ pub fn encode_optional_ies<'a>(
             output,
         ),
         Checked::BadRow(k) => Encoded::BadTable(k),
+    }
+}
+
+// ---- by table number: 0 is P, 1 to 6 the real tables. Each has its constant index, and is proved to pass its check.
+
+fn encode_p<'a>(
+    rows: &[u32],
+    received: &'a [u8],
+    set: &'a [u8],
+    set_used: usize,
+    kept: &[u8],
+    kept_used: usize,
+    order: &[u8],
+    order_used: usize,
+    output: &mut [u8],
+) -> Encoded
+    ensures { λ r. ⌜ Encodes (writing (realOf 0) (now (rows .entry)) (now (received .entry)) (usedOf (now (set .entry)) «set_used») (usedOf (now (order .entry)) «order_used») (usedOf (now (kept .entry)) «kept_used») (now (output .entry))) r (now (output .exit)) ⌝ }
+{
+    encode_by_index(
+        &TABLE_P,
+        &INDEX_P,
+        rows,
+        received,
+        set,
+        set_used,
+        kept,
+        kept_used,
+        order,
+        order_used,
+        output,
+    )
+}
+
+fn encode_registration_request<'a>(
+    rows: &[u32],
+    received: &'a [u8],
+    set: &'a [u8],
+    set_used: usize,
+    kept: &[u8],
+    kept_used: usize,
+    order: &[u8],
+    order_used: usize,
+    output: &mut [u8],
+) -> Encoded
+    ensures { λ r. ⌜ Encodes (writing (realOf 1) (now (rows .entry)) (now (received .entry)) (usedOf (now (set .entry)) «set_used») (usedOf (now (order .entry)) «order_used») (usedOf (now (kept .entry)) «kept_used») (now (output .entry))) r (now (output .exit)) ⌝ }
+{
+    encode_by_index(
+        &REGISTRATION_REQUEST,
+        &INDEX_REGISTRATION_REQUEST,
+        rows,
+        received,
+        set,
+        set_used,
+        kept,
+        kept_used,
+        order,
+        order_used,
+        output,
+    )
+}
+
+fn encode_registration_accept<'a>(
+    rows: &[u32],
+    received: &'a [u8],
+    set: &'a [u8],
+    set_used: usize,
+    kept: &[u8],
+    kept_used: usize,
+    order: &[u8],
+    order_used: usize,
+    output: &mut [u8],
+) -> Encoded
+    ensures { λ r. ⌜ Encodes (writing (realOf 2) (now (rows .entry)) (now (received .entry)) (usedOf (now (set .entry)) «set_used») (usedOf (now (order .entry)) «order_used») (usedOf (now (kept .entry)) «kept_used») (now (output .entry))) r (now (output .exit)) ⌝ }
+{
+    encode_by_index(
+        &REGISTRATION_ACCEPT,
+        &INDEX_REGISTRATION_ACCEPT,
+        rows,
+        received,
+        set,
+        set_used,
+        kept,
+        kept_used,
+        order,
+        order_used,
+        output,
+    )
+}
+
+fn encode_registration_reject<'a>(
+    rows: &[u32],
+    received: &'a [u8],
+    set: &'a [u8],
+    set_used: usize,
+    kept: &[u8],
+    kept_used: usize,
+    order: &[u8],
+    order_used: usize,
+    output: &mut [u8],
+) -> Encoded
+    ensures { λ r. ⌜ Encodes (writing (realOf 3) (now (rows .entry)) (now (received .entry)) (usedOf (now (set .entry)) «set_used») (usedOf (now (order .entry)) «order_used») (usedOf (now (kept .entry)) «kept_used») (now (output .entry))) r (now (output .exit)) ⌝ }
+{
+    encode_by_index(
+        &REGISTRATION_REJECT,
+        &INDEX_REGISTRATION_REJECT,
+        rows,
+        received,
+        set,
+        set_used,
+        kept,
+        kept_used,
+        order,
+        order_used,
+        output,
+    )
+}
+
+fn encode_service_request<'a>(
+    rows: &[u32],
+    received: &'a [u8],
+    set: &'a [u8],
+    set_used: usize,
+    kept: &[u8],
+    kept_used: usize,
+    order: &[u8],
+    order_used: usize,
+    output: &mut [u8],
+) -> Encoded
+    ensures { λ r. ⌜ Encodes (writing (realOf 4) (now (rows .entry)) (now (received .entry)) (usedOf (now (set .entry)) «set_used») (usedOf (now (order .entry)) «order_used») (usedOf (now (kept .entry)) «kept_used») (now (output .entry))) r (now (output .exit)) ⌝ }
+{
+    encode_by_index(
+        &SERVICE_REQUEST,
+        &INDEX_SERVICE_REQUEST,
+        rows,
+        received,
+        set,
+        set_used,
+        kept,
+        kept_used,
+        order,
+        order_used,
+        output,
+    )
+}
+
+fn encode_pdu_session_establishment_request<'a>(
+    rows: &[u32],
+    received: &'a [u8],
+    set: &'a [u8],
+    set_used: usize,
+    kept: &[u8],
+    kept_used: usize,
+    order: &[u8],
+    order_used: usize,
+    output: &mut [u8],
+) -> Encoded
+    ensures { λ r. ⌜ Encodes (writing (realOf 5) (now (rows .entry)) (now (received .entry)) (usedOf (now (set .entry)) «set_used») (usedOf (now (order .entry)) «order_used») (usedOf (now (kept .entry)) «kept_used») (now (output .entry))) r (now (output .exit)) ⌝ }
+{
+    encode_by_index(
+        &PDU_SESSION_ESTABLISHMENT_REQUEST,
+        &INDEX_PDU_SESSION_ESTABLISHMENT_REQUEST,
+        rows,
+        received,
+        set,
+        set_used,
+        kept,
+        kept_used,
+        order,
+        order_used,
+        output,
+    )
+}
+
+fn encode_pdu_session_establishment_accept<'a>(
+    rows: &[u32],
+    received: &'a [u8],
+    set: &'a [u8],
+    set_used: usize,
+    kept: &[u8],
+    kept_used: usize,
+    order: &[u8],
+    order_used: usize,
+    output: &mut [u8],
+) -> Encoded
+    ensures { λ r. ⌜ Encodes (writing (realOf 6) (now (rows .entry)) (now (received .entry)) (usedOf (now (set .entry)) «set_used») (usedOf (now (order .entry)) «order_used») (usedOf (now (kept .entry)) «kept_used») (now (output .entry))) r (now (output .exit)) ⌝ }
+{
+    encode_by_index(
+        &PDU_SESSION_ESTABLISHMENT_ACCEPT,
+        &INDEX_PDU_SESSION_ESTABLISHMENT_ACCEPT,
+        rows,
+        received,
+        set,
+        set_used,
+        kept,
+        kept_used,
+        order,
+        order_used,
+        output,
+    )
+}
+
+// By table number.
+pub fn encode_optional_ies_by<'a>(
+    number: u32,
+    rows: &[u32],
+    received: &'a [u8],
+    set: &'a [u8],
+    set_used: usize,
+    kept: &[u8],
+    kept_used: usize,
+    order: &[u8],
+    order_used: usize,
+    output: &mut [u8],
+) -> Encoded
+    ensures { λ r. ⌜ Encodes (writingBy number (now (rows .entry)) (now (received .entry)) (usedOf (now (set .entry)) «set_used») (usedOf (now (order .entry)) «order_used») (usedOf (now (kept .entry)) «kept_used») (now (output .entry))) r (now (output .exit)) ⌝ }
+{
+    match number {
+        0 => encode_p(
+            rows,
+            received,
+            set,
+            set_used,
+            kept,
+            kept_used,
+            order,
+            order_used,
+            output,
+        ),
+        1 => encode_registration_request(
+            rows,
+            received,
+            set,
+            set_used,
+            kept,
+            kept_used,
+            order,
+            order_used,
+            output,
+        ),
+        2 => encode_registration_accept(
+            rows,
+            received,
+            set,
+            set_used,
+            kept,
+            kept_used,
+            order,
+            order_used,
+            output,
+        ),
+        3 => encode_registration_reject(
+            rows,
+            received,
+            set,
+            set_used,
+            kept,
+            kept_used,
+            order,
+            order_used,
+            output,
+        ),
+        4 => encode_service_request(
+            rows,
+            received,
+            set,
+            set_used,
+            kept,
+            kept_used,
+            order,
+            order_used,
+            output,
+        ),
+        5 => encode_pdu_session_establishment_request(
+            rows,
+            received,
+            set,
+            set_used,
+            kept,
+            kept_used,
+            order,
+            order_used,
+            output,
+        ),
+        6 => encode_pdu_session_establishment_accept(
+            rows,
+            received,
+            set,
+            set_used,
+            kept,
+            kept_used,
+            order,
+            order_used,
+            output,
+        ),
+        _ => Encoded::NoTable,
     }
 }
