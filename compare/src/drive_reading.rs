@@ -12,7 +12,7 @@ impl Driver {
     fn read(&mut self, model: &Model, table: &[u32], part: Vec<u8>, start: u8, option: u8) {
         let need = gen_parts::needed(model, model.read(&part, start, option != 0).ok().as_ref());
         let room = gen_parts::room(&mut self.random, need);
-        self.check(Call::Read { part, table: table.to_vec(), start, option, room });
+        self.check(Call::Read { part, table: table.to_vec(), tlve_start: start, option, room });
     }
 
     /// The same by number.
@@ -24,7 +24,7 @@ impl Driver {
 
     /// Every part up to some octets over alphabets that meet every branch under table P.
     pub fn every_part(&mut self) {
-        let table = self.tables[0].clone();
+        let table = self.tables.optional[0].clone();
         let model = Model::new(&table);
         let all = [0, 1, 2, 5, 0x10, 0x2f, 0x31, 0x52, 0x6f, 0x70, 0x77, 0x7e, 0x90, 0xc1, 0xc3, 0xff];
         let most = [0, 1, 5, 0x10, 0x31, 0x52, 0x70, 0x77, 0x90, 0xc1];
@@ -57,13 +57,13 @@ impl Driver {
             };
             let rows = self.random.below(3 * (1 + bad.len() / WIDTH));
             let room = Room { rows, kept: self.random.below(40), order: self.random.below(40) };
-            self.check(Call::Read { part, table: bad, start, option: 0, room });
+            self.check(Call::Read { part, table: bad, tlve_start: start, option: 0, room });
         }
     }
 
     /// P and the six real tables by number, and numbers that no table has.
     pub fn numbered_tables(&mut self) {
-        let tables = self.tables.clone();
+        let tables = self.tables.optional.clone();
         let models: Vec<Model> = tables.iter().map(|table| Model::new(table)).collect();
         for _ in 0..1_000_000 * self.times {
             let number = self.random.below(7);
@@ -81,7 +81,7 @@ impl Driver {
 
     /// Long values, and parts up to the limit and over it, in room around what they need.
     pub fn long_parts(&mut self) {
-        let tables = self.tables.clone();
+        let tables = self.tables.optional.clone();
         for _ in 0..3_000 * self.times {
             let table = match self.random.below(3) {
                 0 => gen_tables::optional(&mut self.random),
@@ -108,6 +108,43 @@ impl Driver {
                 if let Some(number) = tables.iter().position(|numbered| *numbered == table) {
                     self.read_by(&model, number as u32, part, option);
                 }
+            }
+        }
+    }
+
+    /// Parts gone through by one element at a time; states that no reading reaches; damaged tables.
+    pub fn one_by_one(&mut self) {
+        for _ in 0..30_000 * self.times {
+            let table = match self.random.once_in(2) {
+                true => gen_tables::optional(&mut self.random),
+                false => self.tables.optional[self.random.below(7)].clone(),
+            };
+            let model = Model::new(&table);
+            let tlve_start = gen_tables::start(&mut self.random);
+            let option = self.random.pick(&[0, 0, 1, 255]);
+            let part = gen_parts::any(&mut self.random, model.rows(), tlve_start, Size::Short);
+            let mut state = [0; 4];
+            loop {
+                let call = Call::Next { part: part.clone(), table: table.clone(), tlve_start, option, state };
+                let right = self.check(call);
+                if right.number != 0 || right.said().is_empty() {
+                    break;
+                }
+                state = right.state;
+            }
+            for _ in 0..4 {
+                let random = &mut self.random;
+                let at = random.below(part.len() + 3) as u64;
+                let state = [
+                    random.pick(&[at, at, at, 65_535, 65_536, 1 << 32, u64::MAX]),
+                    random.number() & random.number(),
+                    random.pick(&[0, 1, u64::MAX]),
+                    random.pick(&[0, 1, 2, 5, 127, 128, 255, 256, 1 << 32, u64::MAX]),
+                ];
+                let damaged = random.once_in(4);
+                let table = if damaged { gen_tables::damaged(random, table.clone(), WIDTH) } else { table.clone() };
+                let part = if random.once_in(200) { vec![0x90; 65_534 + random.below(4)] } else { part.clone() };
+                self.check(Call::Next { part, table, tlve_start, option, state });
             }
         }
     }

@@ -93,7 +93,7 @@ fn header(form: Form) -> usize {
 
 /// The value rule: an empty value is receivable, another when the kind that its first octet ends in is in the set. The low
 /// three bits of a half octet are those of its whole octet.
-fn receivable(set: u32, value: &[u8]) -> bool {
+pub fn receivable(set: u32, value: &[u8]) -> bool {
     match value {
         [] => true,
         [first, ..] => set & (1 << (first % 8)) != 0,
@@ -159,6 +159,25 @@ pub struct Cut {
     pub octets: usize,
 }
 
+impl Cut {
+    fn refusal(self) -> Answer {
+        answer(1, &[self.start, usize::from(self.first), self.octets])
+    }
+}
+
+/// Where a reading is: the position, the places met, and the highest of them.
+pub struct State {
+    pub at: usize,
+    pub met: [bool; 128],
+    pub highest: usize,
+}
+
+impl Default for State {
+    fn default() -> Self {
+        Self { at: 0, met: [false; 128], highest: 0 }
+    }
+}
+
 /// What reading leaves: the place rows and the used octets of both logs.
 #[derive(Debug, Clone, PartialEq, Eq)]
 pub struct Reading {
@@ -186,52 +205,50 @@ impl Model {
         self.index
     }
 
+    /// The element at a state, and the state behind it; none at the end.
+    pub fn next(&self, part: &[u8], start: u8, option: bool, state: &mut State) -> Option<Result<Element, Cut>> {
+        let rest = part.get(state.at..).filter(|rest| !rest.is_empty())?;
+        let element = match self.index[usize::from(iei_of(rest[0]))] {
+            255 => match unknown_length(rest, start) {
+                None if required(rest[0]) => {
+                    return Some(Err(Cut { start: state.at, first: rest[0], octets: rest.len() }));
+                }
+                length => Element {
+                    start: state.at,
+                    length: length.unwrap_or(rest.len()),
+                    place: None,
+                    verdict: Verdict::Unknown,
+                },
+            },
+            place => {
+                let place = usize::from(place);
+                let row = &self.rows[place];
+                let length = whole(row.form, rest);
+                let good = length
+                    .is_some_and(|length| length >= row.least && receivable(row.set, &rest[header(row.form)..length]));
+                let late = place < state.highest;
+                let verdict = if state.met[place] {
+                    Verdict::Repeated
+                } else if good && (!late || option) {
+                    Verdict::Accepted
+                } else if late {
+                    Verdict::OutOfSequence
+                } else {
+                    Verdict::Malformed
+                };
+                state.met[place] = true;
+                state.highest = state.highest.max(place);
+                Element { start: state.at, length: length.unwrap_or(rest.len()), place: Some(place), verdict }
+            }
+        };
+        state.at += element.length;
+        Some(Ok(element))
+    }
+
     /// The elements of a part.
     pub fn elements(&self, part: &[u8], start: u8, option: bool) -> Result<Vec<Element>, Cut> {
-        let mut elements: Vec<Element> = Vec::new();
-        let mut met = [false; 128];
-        let mut highest = 0;
-        let mut at = 0;
-        while at < part.len() {
-            let rest = &part[at..];
-            let element = match self.index[usize::from(iei_of(rest[0]))] {
-                255 => match unknown_length(rest, start) {
-                    None if required(rest[0]) => {
-                        return Err(Cut { start: at, first: rest[0], octets: rest.len() });
-                    }
-                    length => Element {
-                        start: at,
-                        length: length.unwrap_or(rest.len()),
-                        place: None,
-                        verdict: Verdict::Unknown,
-                    },
-                },
-                place => {
-                    let place = usize::from(place);
-                    let row = &self.rows[place];
-                    let length = whole(row.form, rest);
-                    let good = length.is_some_and(|length| {
-                        length >= row.least && receivable(row.set, &rest[header(row.form)..length])
-                    });
-                    let late = place < highest;
-                    let verdict = if met[place] {
-                        Verdict::Repeated
-                    } else if good && (!late || option) {
-                        Verdict::Accepted
-                    } else if late {
-                        Verdict::OutOfSequence
-                    } else {
-                        Verdict::Malformed
-                    };
-                    met[place] = true;
-                    highest = highest.max(place);
-                    Element { start: at, length: length.unwrap_or(rest.len()), place: Some(place), verdict }
-                }
-            };
-            at += element.length;
-            elements.push(element);
-        }
-        Ok(elements)
+        let mut state = State::default();
+        std::iter::from_fn(|| self.next(part, start, option, &mut state)).collect()
     }
 
     /// What reading leaves of a part.
@@ -269,6 +286,26 @@ impl Model {
     }
 }
 
+/// The element at a state: checks 4, 3, then 1. Its length, IEI, place or 255, and verdict; at the end none.
+pub fn next(
+    table: &[u32],
+    part: &[u8],
+    read: impl FnOnce() -> Option<Result<Element, Cut>>,
+) -> Result<Vec<usize>, Answer> {
+    if let Some(row) = first_bad(table) {
+        return Err(answer(4, &[row]));
+    }
+    if part.len() > MOST_OCTETS {
+        return Err(answer(3, &[]));
+    }
+    let element = read().transpose().map_err(Cut::refusal)?;
+    let said = |element: Element| {
+        let iei = usize::from(iei_of(part[element.start]));
+        vec![element.length, iei, element.place.unwrap_or(255), element.verdict as usize]
+    };
+    Ok(element.map_or(vec![], said))
+}
+
 /// How much was lent to reading: numbers of place rows, octets of both logs.
 #[derive(Debug, Clone, Copy)]
 pub struct Room {
@@ -293,7 +330,7 @@ pub fn reading(
     if room.rows < PLACE * (table.len() / WIDTH) {
         return Err(answer(2, &[1]));
     }
-    let reading = read().map_err(|cut| answer(1, &[cut.start, usize::from(cut.first), cut.octets]))?;
+    let reading = read().map_err(Cut::refusal)?;
     if room.kept < reading.kept.len() {
         return Err(answer(2, &[2]));
     }
@@ -361,7 +398,7 @@ pub enum Log {
 }
 
 impl Log {
-    fn malformed(self, log: &[u8]) -> Option<Answer> {
+    pub fn malformed(self, log: &[u8]) -> Option<Answer> {
         match self {
             Log::Kept => kept_list(log).is_none().then(|| answer(11, &[2])),
             Log::Order => order_list(log).is_none().then(|| answer(11, &[1])),

@@ -2,6 +2,7 @@
 
 use crate::calls::{Call, LEFT, Outcome};
 use crate::judge::Room;
+use crate::recorded::Reader;
 use crate::rows::PLACE;
 
 /// A recorded case: the call, the number, the values, the places that are present, and the used octets of both logs.
@@ -18,8 +19,9 @@ impl Recorded {
     pub fn agrees(&self, outcome: &Outcome) -> bool {
         let values = &self.values;
         let said = outcome.number == self.number
-            && outcome.values[..values.len()] == values[..]
-            && outcome.values[values.len()..].iter().all(|&value| value == LEFT);
+            && outcome.values[0] == values.len() as u64
+            && outcome.said() == values
+            && outcome.values[1 + values.len()..].iter().all(|&value| value == LEFT);
         let places = self.present.iter().all(|(place, row)| outcome.rows[PLACE * place..][..PLACE] == *row);
         let ones = outcome.rows.iter().step_by(PLACE).filter(|&&source| source == 1).count();
         let logs = self.logs.iter().zip(&outcome.logs).all(|(used, lent)| lent.starts_with(used));
@@ -29,48 +31,29 @@ impl Recorded {
 
 /// The cases of a list; none where the list is not in its format.
 pub fn cases(list: &[u8]) -> Option<Vec<Recorded>> {
-    let mut list = List(list);
+    let mut list = Reader(list);
     let count = list.number(4)?;
-    let cases = (0..count).map(|_| list.case()).collect::<Option<Vec<_>>>()?;
+    let cases = (0..count).map(|_| case(&mut list)).collect::<Option<Vec<_>>>()?;
     list.0.is_empty().then_some(cases)
 }
 
-struct List<'a>(&'a [u8]);
-
-impl List<'_> {
-    fn number(&mut self, octets: usize) -> Option<usize> {
-        let (number, rest) = self.0.split_at_checked(octets)?;
-        self.0 = rest;
-        Some(number.iter().fold(0, |number, &octet| 256 * number + usize::from(octet)))
+fn case(list: &mut Reader<'_>) -> Option<Recorded> {
+    let [table_number, tlve_start, option] = [list.number(1)?, list.number(1)?, list.number(1)?];
+    let (tlve_start, option) = (tlve_start as u8, option as u8);
+    let table = list.numbers()?;
+    let room = Room { rows: list.count(2)?, kept: list.count(4)?, order: list.count(4)? };
+    let part = list.string()?;
+    let call = match table_number {
+        255 => Call::Read { part, table, tlve_start, option, room },
+        number => Call::ReadBy { number: number as u32, part, option, room },
+    };
+    let number = list.number(1)? as u32;
+    let count = list.number(1)?;
+    let values = (0..count).map(|_| list.number(4)).collect::<Option<Vec<_>>>()?;
+    let count = list.number(1)?;
+    let mut present = Vec::new();
+    for _ in 0..count {
+        present.push((list.count(1)?, [1, list.number(2)? as u32, list.number(2)? as u32]));
     }
-
-    fn string(&mut self) -> Option<Vec<u8>> {
-        let count = self.number(2)?;
-        let (head, rest) = self.0.split_at_checked(count)?;
-        self.0 = rest;
-        let (times, octet) = (self.number(2)?, self.number(1)? as u8);
-        Some([head, &vec![octet; times]].concat())
-    }
-
-    fn case(&mut self) -> Option<Recorded> {
-        let [table_number, start, option] = [self.number(1)?, self.number(1)?, self.number(1)?];
-        let (start, option) = (start as u8, option as u8);
-        let numbers = self.number(2)?;
-        let table = (0..numbers).map(|_| self.number(4).map(|number| number as u32)).collect::<Option<Vec<_>>>()?;
-        let room = Room { rows: self.number(2)?, kept: self.number(4)?, order: self.number(4)? };
-        let part = self.string()?;
-        let call = match table_number {
-            255 => Call::Read { part, table, start, option, room },
-            number => Call::ReadBy { number: number as u32, part, option, room },
-        };
-        let number = self.number(1)? as u32;
-        let count = self.number(1)?;
-        let values = (0..count).map(|_| self.number(4).map(|value| value as u64)).collect::<Option<Vec<_>>>()?;
-        let count = self.number(1)?;
-        let mut present = Vec::new();
-        for _ in 0..count {
-            present.push((self.number(1)?, [1, self.number(2)? as u32, self.number(2)? as u32]));
-        }
-        Some(Recorded { call, number, values, present, logs: [self.string()?, self.string()?] })
-    }
+    Some(Recorded { call, number, values, present, logs: [list.string()?, list.string()?] })
 }

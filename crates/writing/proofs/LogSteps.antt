@@ -13,7 +13,7 @@ use lib.Seq.{drop-drop}
 use Rattle.definitions.specs.Logs.{Placed, Count, countAt, put, keptList, orderEntry, orderList, orEmpty}
 use Rattle.definitions.proofs.Logs.{entryOf, keptBy, kept-nil, kept-front}
 use Rattle.definitions.proofs.Orders.{orderFront, orderBy, order-nil, order-front, Fits, front-fits}
-use Rattle.logs.proofs.Walks.{entry-at-fits}
+use Rattle.kept.proofs.Walks.{entry-at-fits}
 use Rattle.writing.specs.Walks.{keptFrom, KeptAt, nextOf, restOf, orderFrom, OrderAt}
 
 -- what a list with an entry put in front is

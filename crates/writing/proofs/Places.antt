@@ -10,8 +10,8 @@ use lib.ListN.{length, length-take, length-drop}
 use Rattle.definitions.specs.Rows.{Form, half, fixed, tlv, tlv-e, rowsOf, rowAt, form}
 use Rattle.definitions.specs.Values.{Octets, Value, valueAt, present, sourceOf, octetsAt, fits, unfitAt}
 use Rattle.definitions.specs.Writing.{encoded, elementAt}
-use Rattle.message.specs.Shows.{valueOf, sourcesOf}
-use Rattle.message.specs.declared.show.ValueRow.{ValueRow}
+use Rattle.values.specs.Rows.{valueOf, sourcesOf}
+use Rattle.values.specs.declared.row.ValueRow.{ValueRow}
 use Rattle.writing.specs.Walks.{filledOf}
 use Rattle.writing.specs.Sizes.{takes, placeLength, mostIe}
 

@@ -23,8 +23,8 @@ use Rattle.definitions.proofs.Orders.{order-nil}
 use Rattle.definitions.proofs.RowLaws.{listed}
 use Rattle.definitions.proofs.TableLaws.{few-places, index-place}
 use Rattle.definitions.proofs.WriteLaws.{loggedLength}
-use Rattle.message.specs.Seen.{setOf, seenOf, includingPlace}
-use Rattle.message.specs.declared.seen.Seen.{Seen}
+use Rattle.seen.specs.Seen.{setOf, seenOf, includingPlace}
+use Rattle.seen.specs.declared.Seen.{Seen}
 use Rattle.writing.specs.Walks.{IndexIs}
 use Rattle.writing.specs.Sizes.{placeLength, mostIe, knownLength, knownSet, entryLength, entrySet, Tallied, Tells, LoggedBy, KeptBy}
 use Rattle.writing.specs.declared.sizes.Tally.{Tally}

@@ -10,9 +10,9 @@ use Rattle.definitions.specs.Reading.{Lent, Read, reading}
 use Rattle.definitions.specs.Writing.{Wrote, writing}
 use Rattle.promises.specs.RoundTrip.{AreOctets, writtenBack, gives}
 use Rattle.promises.proofs.RoundTrip.{round-trip}
-use Rattle.logs.specs.Kept.{usedOf}
-use Rattle.message.specs.Decodes.{lentOf, Reads}
-use Rattle.message.specs.declared.decode.Decoded.{Decoded}
+use Rattle.kept.specs.Kept.{usedOf}
+use Rattle.reading.specs.Decodes.{lentOf, Reads}
+use Rattle.reading.specs.declared.decode.Decoded.{Decoded}
 use Rattle.writing.specs.Encodes.{encodedAs, Encodes}
 use Rattle.writing.specs.declared.encode.Encoded.{Encoded}
 use Rattle.writing.proofs.SameAnswers.{same-encoded}

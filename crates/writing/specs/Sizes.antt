@@ -11,7 +11,7 @@ use Rattle.definitions.specs.Elements.{including}
 use Rattle.definitions.specs.Logs.{Placed, knownIei, notKnown, ignored, keptList, orderList}
 use Rattle.definitions.specs.Writing.{Filled, elementAt, logged}
 use Rattle.definitions.proofs.WriteLaws.{loggedLength}
-use Rattle.message.specs.Seen.{setOf}
+use Rattle.seen.specs.Seen.{setOf}
 use Rattle.writing.specs.declared.sizes.Tally.{Tally}
 use Rattle.writing.specs.declared.sizes.Logged.{Logged}
 use Rattle.writing.specs.declared.sizes.Kept.{Kept}

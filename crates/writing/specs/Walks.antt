@@ -10,7 +10,7 @@ use Rattle.definitions.specs.Rows.{Row, rowsOf, firstIei, firstBad, placeOf, in
 use Rattle.definitions.specs.Values.{valueAt, present, unfitAt}
 use Rattle.definitions.specs.Logs.{Placed, knownIei, notKnown, ignored, keptList, orderList, orEmpty}
 use Rattle.definitions.specs.Writing.{Filled, elementAt, firsts, walked}
-use Rattle.message.specs.Shows.{sourcesOf}
+use Rattle.values.specs.Rows.{sourcesOf}
 use Rattle.writing.specs.Puts.{PutAt}
 use Rattle.writing.specs.declared.walk.Pen.{Pen}
 

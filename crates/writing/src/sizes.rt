@@ -1,22 +1,22 @@
 // What writing needs to know before an octet is written: whether the logs are well formed and the values fit, how many octets
 // there are to write, and which places the order log names.
-use logs::ie_order::Front;
-use logs::ie_order::Placed;
-use logs::ie_order::entry_len;
-use logs::ie_order::front_at;
-use logs::unknown_ies::Count;
-use logs::unknown_ies::entry_at;
-use message::seen::Seen;
-use message::seen::seen_has;
-use message::seen::seen_with;
-use message::show::does_fit;
-use message::show::row_at;
-use message::show::value_octets;
-use tables::index::Place;
-use tables::index::place_of;
-use tables::rows::Form;
-use tables::rows::form_at;
-use tables::rows::places;
+use kept::Count;
+use kept::entry_at;
+use order::Front;
+use order::Placed;
+use order::entry_len;
+use order::front_at;
+use rows::columns::Form;
+use rows::columns::form_at;
+use rows::columns::places;
+use rows::index::Place;
+use rows::index::place_of;
+use seen::Seen;
+use seen::seen_has;
+use seen::seen_with;
+use values::row::does_fit;
+use values::row::row_at;
+use values::row::value_octets;
 ghost use mathlib.Core.Path.{_≡_};
 ghost use mathlib.Core.Option.{none};
 ghost use Prim.Native.Nat.{_≤_, _<_, _*_};
@@ -24,10 +24,10 @@ ghost use lib.ListN.{length};
 ghost use Rattle.definitions.specs.Rows.{rowsOf, firstBad};
 ghost use Rattle.definitions.specs.Values.{unfitAt};
 ghost use Rattle.definitions.specs.Writing.{unfit};
-ghost use Rattle.logs.specs.Order.{placedAs};
-ghost use Rattle.message.specs.Seen.{setOf};
-ghost use Rattle.message.specs.Shows.{sourcesOf};
-ghost use Rattle.tables.specs.Forms.{formAs};
+ghost use Rattle.order.specs.Order.{placedAs};
+ghost use Rattle.seen.specs.Seen.{setOf};
+ghost use Rattle.values.specs.Rows.{sourcesOf};
+ghost use Rattle.rows.specs.Forms.{formAs};
 ghost use Rattle.writing.specs.Walks.{filledOf, addedPiece, addedOctets};
 ghost use Rattle.writing.specs.Sizes.{takes, placeLength, mostIe, Sized, Tallied, LoggedBy, KeptBy, fitAs};
 
@@ -76,7 +76,7 @@ fn place_len<'a>(
     set: &'a [u8],
     place: usize,
 ) -> usize
-    requires { ⌜ (place < 65536) × (length (now received) ≤ 65535) × (length (now set) ≤ 65535) ⌝ }
+    requires { ⌜ (length (now received) ≤ 65535) × (length (now set) ≤ 65535) ⌝ }
     ensures { λ r. ⌜ (r ≡ placeLength (filledOf (now (table .entry)) (now (rows .entry)) (now (received .entry)) (now (set .entry))) place) × (r ≤ mostIe) ⌝ }
 {
     let row = row_at(rows, place);
@@ -174,7 +174,7 @@ fn first_len<'a>(
     seen: Seen,
     place: usize,
 ) -> usize
-    requires { ⌜ (place < 65536) × (length (now received) ≤ 65535) × (length (now set) ≤ 65535) ⌝ }
+    requires { ⌜ (length (now received) ≤ 65535) × (length (now set) ≤ 65535) ⌝ }
     ensures { λ r. ⌜ (r ≡ length (addedPiece (filledOf (now (table .entry)) (now (rows .entry)) (now (received .entry)) (now (set .entry))) (setOf seen) place)) × (r ≤ mostIe) ⌝ }
 {
     if seen_has(seen, place) {
@@ -212,7 +212,6 @@ fn is_unfit<'a>(
     set: &'a [u8],
     place: usize,
 ) -> bool
-    requires { ⌜ place < 65536 ⌝ }
     ensures { λ r. ⌜ r ≡ unfitAt (rowsOf (now (table .entry))) (sourcesOf (now (received .entry)) (now (set .entry))) (now (rows .entry)) place ⌝ }
 {
     let row = row_at(rows, place);
@@ -224,7 +223,6 @@ fn is_unfit<'a>(
 }
 
 pub(crate) fn first_unfit<'a>(table: &[u32], rows: &[u32], received: &'a [u8], set: &'a [u8]) -> Fit
-    requires { ⌜ length (rowsOf (now table)) ≤ 128 ⌝ }
     ensures { λ r. ⌜ fitAs r ≡ unfit (rowsOf (now (table .entry))) (sourcesOf (now (received .entry)) (now (set .entry))) (now (rows .entry)) ⌝ }
 {
     let n = places(table);

@@ -3,8 +3,8 @@
 use mathlib.Core.Path.{_≡_, refl, ap, _∙_}
 use Rattle.definitions.specs.Tables.{tableOf}
 use Rattle.definitions.proofs.WriteLaws.{write-by, write-none}
-use Rattle.logs.specs.Kept.{usedOf}
-use Rattle.message.proofs.Decoding.{no-table}
+use Rattle.kept.specs.Kept.{usedOf}
+use Rattle.real.proofs.RealLaws.{no-table}
 use Rattle.writing.proofs.Encoding.{refused, moved}
 use borrow.Author.Needs.{needs}
 use Rattle.writing.proofs.encode.encode_optional_ies_by.Statement.{statement}

@@ -2,8 +2,8 @@
 -- That the table passes, and that the index is its own, is the rule of the constants.
 use Rattle.definitions.specs.Basic.{concat}
 use Rattle.definitions.specs.Tables.{tableOf, row, optional3}
-use Rattle.tables.specs.Real.{realIndexOf, index3}
-use Rattle.tables.proofs.RealLaws.{real}
+use Rattle.real.specs.Real.{realIndexOf, index3}
+use Rattle.real.proofs.RealLaws.{real}
 use borrow.Author.Needs.{needs}
 use Rattle.writing.proofs.encode.encode_registration_reject.Statement.{statement}
 use Rattle.writing.proofs.encode.encode_registration_reject.Tie as tie

@@ -2,8 +2,8 @@
 -- That the table passes, and that the index is its own, is the rule of the constants.
 use Rattle.definitions.specs.Basic.{concat}
 use Rattle.definitions.specs.Tables.{tableOf, row, optional1}
-use Rattle.tables.specs.Real.{realIndexOf, index1}
-use Rattle.tables.proofs.RealLaws.{real}
+use Rattle.real.specs.Real.{realIndexOf, index1}
+use Rattle.real.proofs.RealLaws.{real}
 use borrow.Author.Needs.{needs}
 use Rattle.writing.proofs.encode.encode_registration_request.Statement.{statement}
 use Rattle.writing.proofs.encode.encode_registration_request.Tie as tie

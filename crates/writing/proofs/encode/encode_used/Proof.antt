@@ -7,8 +7,8 @@ use lib.ListN.{length}
 use Rattle.definitions.specs.Rows.{rowsOf}
 use Rattle.definitions.specs.Values.{badRows}
 use Rattle.definitions.proofs.TableLaws.{few-places}
-use Rattle.message.specs.Seen.{setOf}
-use Rattle.message.specs.Shows.{sourcesOf}
+use Rattle.seen.specs.Seen.{setOf}
+use Rattle.values.specs.Rows.{sourcesOf}
 use Rattle.writing.specs.Walks.{filledOf}
 use Rattle.writing.specs.Sizes.{LoggedBy, KeptBy, fitAs}
 use Rattle.writing.specs.declared.sizes.Logged.{Logged}
@@ -54,7 +54,7 @@ places-requires : tie.Need-places-requires
 places-requires c κs = search needs
 
 any-bad-requires : tie.Need-any-bad-requires
-any-bad-requires c κs = omega (arith, c .places .ensures, few-places (rowsOf (c .before .before .before .before .before .before .before .before .before .before .before .before .before .before .before .before .before .args .table .now)) (c .before .before .before .before .before .before .before .before .before .before .before .before .before .before .before .before .before .pre .sized .passes))
+any-bad-requires c κs = search needs
 
 -- and the rows
 bad : (c : tie.After-any-bad) → let a = c .before .before .before .before .before .before .before .before .before .before .before .before .before .before .before .before .before .before .args in c .any-bad .result ≡ badRows (sourcesOf (a .received .now) (a .set .now)) (a .rows .now) (length (rowsOf (a .table .now)))
@@ -64,7 +64,7 @@ returns-3 : tie.Need-returns-3
 returns-3 c = bad-rows (c .before .before .before .before .before .before .before .before .before .before .before .before .before .before .before .before .before .before .before .args .table .now) (c .before .before .before .before .before .before .before .before .before .before .before .before .before .before .before .before .before .before .before .args .index .now) (c .before .before .before .before .before .before .before .before .before .before .before .before .before .before .before .before .before .before .before .args .rows .now) (c .before .before .before .before .before .before .before .before .before .before .before .before .before .before .before .before .before .before .before .args .received .now) (c .before .before .before .before .before .before .before .before .before .before .before .before .before .before .before .before .before .before .before .args .set .now) (c .before .before .before .before .before .before .before .before .before .before .before .before .before .before .before .before .before .before .before .args .kept .now) (c .before .before .before .before .before .before .before .before .before .before .before .before .before .before .before .before .before .before .before .args .order .now) (c .before .before .before .before .before .before .before .before .before .before .before .before .before .before .before .before .before .before .before .args .output .now) (c .before .before .before .before .before .before .before .before .before .before .before .before .before .before .before .before .before .before .before .pre) (logged (c .before .before .before .before .before .before .before .before) .1 .ps) (logged (c .before .before .before .before .before .before .before .before) .1 .is) (measured (c .before .before .before .before) .1) (measured (c .before .before .before .before) .2) (sym (bad (c .before)) ∙ c .if1 .taken)
 
 first-unfit-requires : tie.Need-first-unfit-requires
-first-unfit-requires c κs = few-places (rowsOf (c .before .before .before .before .before .before .before .before .before .before .before .before .before .before .before .before .before .before .before .args .table .now)) (c .before .before .before .before .before .before .before .before .before .before .before .before .before .before .before .before .before .before .before .pre .sized .passes)
+first-unfit-requires c κs = search needs
 
 enum-known-k : tie.Need-enum-known-k
 enum-known-k c = search needs

@@ -6,7 +6,7 @@ use borrow.Author.Tests.{le-ltb}
 use lib.ListN.{length}
 use Rattle.definitions.specs.Basic.{tooLong}
 use Rattle.definitions.proofs.Logs.{past-buffer}
-use Rattle.logs.specs.Kept.{usedOf}
+use Rattle.kept.specs.Kept.{usedOf}
 use Rattle.writing.proofs.encode.too_long.Statement.{statement}
 use Rattle.writing.proofs.encode.too_long.Tie as tie
 

@@ -5,8 +5,8 @@ use Prim.Native.Nat.{_≤_}
 use mathlib.Core.Path.{_≡_, subst}
 use lib.ListN.{length}
 use Rattle.definitions.specs.Writing.{encoded}
-use Rattle.tables.specs.Forms.{formAs}
-use Rattle.tables.specs.declared.rows.Form.{Form}
+use Rattle.rows.specs.Forms.{formAs}
+use Rattle.rows.specs.declared.columns.Form.{Form}
 use Rattle.writing.specs.Puts.{Writes}
 use borrow.Author.Needs.{needs}
 use Rattle.writing.proofs.put.put_ie.Statement.{statement}

@@ -4,7 +4,7 @@ use Prim.Native.Nat.{_+_, _*_, _-_, _≤_}
 use native.Mathlib.Omega.{arith}
 use mathlib.Core.Path.{_≡_, ap, _∙_}
 use lib.ListN.{length, length-append}
-use Rattle.message.specs.Seen.{setOf}
+use Rattle.seen.specs.Seen.{setOf}
 use Rattle.writing.specs.Walks.{filledOf, addedPiece, addedOctets}
 use Rattle.writing.proofs.Cursor.{added-next, added-end}
 use borrow.Author.Needs.{needs}
@@ -24,7 +24,7 @@ loop-holds : tie.Need-loop-holds Inv-loop μ-loop
 loop-holds c = (omega arith, omega arith, omega arith)
 
 first-len-requires : tie.Need-first-len-requires Inv-loop μ-loop
-first-len-requires c κs = (omega (arith, c .before .before .places .ensures, c .before .before .before .before .before .before .before .pre .0), c .before .before .before .before .before .before .before .pre .1, c .before .before .before .before .before .before .before .pre .2)
+first-len-requires c κs = (c .before .before .before .before .before .before .before .pre .1, c .before .before .before .before .before .before .before .pre .2)
 
 add-octets : tie.Need-add-octets Inv-loop μ-loop
 add-octets c = omega (arith, c .first-len .ensures .1, c .before .before .before .places .ensures, c .before .before .before .before .before .before .before .before .pre .0)

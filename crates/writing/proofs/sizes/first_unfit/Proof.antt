@@ -6,7 +6,7 @@ use mathlib.Core.Path.{_≡_, ap, sym, _∙_}
 use Rattle.definitions.specs.Rows.{rowsOf}
 use Rattle.definitions.specs.Values.{firstFrom, unfitAt}
 use Rattle.definitions.specs.Writing.{unfit}
-use Rattle.message.specs.Shows.{sourcesOf}
+use Rattle.values.specs.Rows.{sourcesOf}
 use Rattle.writing.proofs.Tallying.{first-here, first-further, first-over}
 use borrow.Author.Needs.{needs}
 use Rattle.writing.proofs.sizes.first_unfit.Statement.{statement}
@@ -25,7 +25,7 @@ loop-holds : tie.Need-loop-holds Inv-loop μ-loop
 loop-holds c = let z : c .places .result - 0 ≡ c .places .result = omega arith in (omega arith, ap (λ (j : ℕ). firstFrom (unfitAt (rowsOf (c .before .before .before .before .before .args .table .now)) (sourcesOf (c .before .before .before .before .before .args .received .now) (c .before .before .before .before .before .args .set .now)) (c .before .before .before .before .before .args .rows .now)) 0 j) z)
 
 is-unfit-requires : tie.Need-is-unfit-requires Inv-loop μ-loop
-is-unfit-requires c κs = omega (arith, c .before .before .places .ensures, c .before .before .before .before .before .before .before .pre)
+is-unfit-requires c κs = search needs
 
 returns : tie.Need-returns Inv-loop μ-loop
 unfolding unfit

@@ -7,7 +7,7 @@ use mathlib.Core.Option.{none, some}
 use lib.ListN.{length, drop}
 use Rattle.definitions.proofs.Orders.{orderFront}
 use Rattle.definitions.proofs.Lists.{to-end}
-use Rattle.logs.specs.Order.{placedAs, frontAs}
+use Rattle.order.specs.Order.{placedAs, frontAs}
 use Rattle.writing.specs.Walks.{filledOf}
 use Rattle.writing.proofs.LogSteps.{OrderEntry, order-split, order-stop}
 use Rattle.writing.proofs.Tallying.{Logging, logging-begun, logging-step, logging-ended}

@@ -4,8 +4,8 @@ use Prim.Native.Nat.{_<_}
 use native.Mathlib.Omega.{arith}
 use mathlib.Core.Path.{_≡_, ap, sym, _∙_}
 use Rattle.definitions.specs.Rows.{rowsOf, placeOf}
-use Rattle.logs.specs.Order.{reasonAs}
-use Rattle.tables.specs.Answers.{placeAs}
+use Rattle.order.specs.Order.{reasonAs}
+use Rattle.rows.specs.Answers.{placeAs}
 use Rattle.writing.specs.Walks.{filledOf}
 use Rattle.writing.proofs.Tallying.{place-found, place-low, tallied-known, tallied-nowhere, tallied-unknown, tallied-ignored}
 use borrow.Author.Needs.{needs}
@@ -31,7 +31,7 @@ low c =
     omega arith
 
 place-len-requires : tie.Need-place-len-requires
-place-len-requires c κs = (omega (arith, low (c .before)), c .before .before .before .before .before .before .before .before .before .before .before .before .before .pre .0 .received-short, c .before .before .before .before .before .before .before .before .before .before .before .before .before .pre .0 .set-short)
+place-len-requires c κs = (c .before .before .before .before .before .before .before .before .before .before .before .before .before .pre .0 .received-short, c .before .before .before .before .before .before .before .before .before .before .before .before .before .pre .0 .set-short)
 
 add-t15 : tie.Need-add-t15
 add-t15 c = omega (arith, c .before .place-len .ensures .1, c .before .before .before .before .before .before .before .before .before .before .before .before .before .before .before .pre .1)

@@ -3,7 +3,7 @@
 use Prim.Native.Nat.{_+_, _-_, _≤_}
 use native.Mathlib.Omega.{arith}
 use mathlib.Core.List.{_++_}
-use Rattle.message.specs.Seen.{setOf}
+use Rattle.seen.specs.Seen.{setOf}
 use Rattle.writing.specs.Walks.{filledOf, addedPiece, addedOctets, Left}
 use Rattle.writing.proofs.Cursor.{added-next, added-end}
 use Rattle.writing.proofs.Putting.{put-begun, put-room, put-step, put-ended, put-as}

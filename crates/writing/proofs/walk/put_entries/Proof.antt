@@ -8,8 +8,8 @@ use lib.ListN.{length, drop}
 use Rattle.definitions.specs.Logs.{orderList, orEmpty}
 use Rattle.definitions.proofs.Orders.{orderFront}
 use Rattle.definitions.proofs.Lists.{to-end}
-use Rattle.logs.specs.Order.{placedAs, frontAs}
-use Rattle.message.specs.Seen.{setOf}
+use Rattle.order.specs.Order.{placedAs, frontAs}
+use Rattle.seen.specs.Seen.{setOf}
 use Rattle.writing.specs.Walks.{filledOf, keptFrom, orderFrom, OrderAt, leftOf, Writing}
 use Rattle.writing.proofs.LogSteps.{OrderEntry, order-split, order-never, order-over}
 use Rattle.writing.proofs.Putting.{put-begun}

@@ -4,9 +4,9 @@ use Prim.Native.Nat.{_≤_}
 use native.Mathlib.Omega.{arith}
 use mathlib.Core.Path.{_≡_, ap}
 use lib.ListN.{length}
-use Rattle.logs.specs.Order.{placedAs}
-use Rattle.logs.specs.declared.ie_order.Placed.{Placed}
-use Rattle.message.specs.Seen.{setOf}
+use Rattle.order.specs.Order.{placedAs}
+use Rattle.order.specs.declared.Placed.{Placed}
+use Rattle.seen.specs.Seen.{setOf}
 use Rattle.writing.specs.Walks.{filledOf, keptFrom, pieceOf}
 use Rattle.writing.proofs.Walking.{entry-known, entry-unknown, entry-ignored}
 use borrow.Author.Needs.{needs}

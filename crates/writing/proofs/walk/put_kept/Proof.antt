@@ -10,7 +10,7 @@ use borrow.Rule.Slice.PartMut.{putMid}
 use Rattle.definitions.specs.Logs.{countAt}
 use Rattle.definitions.proofs.Logs.{entryOf}
 use Rattle.definitions.proofs.Lists.{to-end, length-overAt}
-use Rattle.logs.proofs.Counts.{count-is, count-not}
+use Rattle.kept.proofs.Counts.{count-is, count-not}
 use Rattle.writing.specs.Puts.{PutAt}
 use Rattle.writing.specs.Walks.{keptFrom, KeptAt, nextOf, restOf}
 use Rattle.writing.proofs.LogSteps.{KeptEntry, kept-split, kept-next, kept-over, kept-none}

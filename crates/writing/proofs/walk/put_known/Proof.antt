@@ -9,8 +9,8 @@ use lib.ListN.{length, length-append}
 use Rattle.definitions.specs.Rows.{rowsOf, placeOf}
 use Rattle.definitions.specs.Writing.{elementAt}
 use Rattle.definitions.proofs.RowLaws.{listed}
-use Rattle.message.specs.Seen.{setOf}
-use Rattle.tables.specs.Answers.{placeAs}
+use Rattle.seen.specs.Seen.{setOf}
+use Rattle.rows.specs.Answers.{placeAs}
 use Rattle.writing.specs.Walks.{filledOf, addedOctets}
 use Rattle.writing.proofs.Tallying.{place-found, place-low}
 use Rattle.writing.proofs.Putting.{put-nothing, put-both, second-room}

@@ -8,9 +8,8 @@ use Rattle.definitions.specs.Rows.{rowsOf, rowAt, form}
 use Rattle.definitions.specs.Values.{octetsAt}
 use Rattle.definitions.specs.Writing.{encoded, elementAt}
 use Rattle.definitions.proofs.Lists.{length-overAt}
-use Rattle.definitions.proofs.TableLaws.{few-places}
-use Rattle.message.specs.Shows.{valueOf, sourcesOf}
-use Rattle.tables.specs.Forms.{formAs}
+use Rattle.values.specs.Rows.{valueOf, sourcesOf}
+use Rattle.rows.specs.Forms.{formAs}
 use Rattle.writing.specs.Puts.{Writes}
 use Rattle.writing.specs.Walks.{filledOf}
 use Rattle.writing.proofs.Places.{absent, there, fits-there}
@@ -20,7 +19,7 @@ use Rattle.writing.proofs.walk.put_place.Statement.{statement}
 use Rattle.writing.proofs.walk.put_place.Tie as tie
 
 row-at-requires : tie.Need-row-at-requires
-row-at-requires c κs = omega (arith, few-places (rowsOf (c .before .before .before .before .before .args .table .now)) (c .before .before .before .before .before .pre .0 .passes))
+row-at-requires c κs = search needs
 
 returns : tie.Need-returns
 returns c = rw (absent (c .before .before .before .before .before .before .before .before .args .table .now) (c .before .before .before .before .before .before .before .before .args .rows .now) (c .before .before .before .before .before .before .before .before .args .received .now) (c .before .before .before .before .before .before .before .before .args .set .now) (c .before .before .before .before .before .before .before .before .args .place) (c .before .before .row-at .result) (c .before .before .row-at .ensures) (c .if1 .taken) (c .before .before .before .before .before .before .before .before .args .iei)) (put-nothing (c .before .before .before .before .before .before .before .before .args .at) (c .before .before .before .before .before .before .before .before .args .output .now))

@@ -1,0 +1,4 @@
+-- Laws that proofs cite.
+pub mod Checking
+pub mod Showing
+pub mod SameAnswers

@@ -1,0 +1,4 @@
+-- What the answers of this crate are by the definitions.
+pub mod Rows
+pub mod Checks
+pub mod Shows
