@@ -117,7 +117,7 @@ fn count_at(s: &[u8]) -> Count
 }
 
 // The count at the front, where the log has the element behind it.
-fn entry_at(s: &[u8]) -> Count
+pub fn entry_at(s: &[u8]) -> Count
     ensures { λ r. ⌜ r ≡ countOf (entryOf (now (s .entry)) (countAt (now (s .entry)))) ⌝ }
 {
     match count_at(s) {
