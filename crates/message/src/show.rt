@@ -46,7 +46,7 @@ fn number(rows: &[u32], at: usize) -> u32
 }
 
 // The numbers of a place's row.
-fn row_at(rows: &[u32], place: usize) -> ValueRow
+pub fn row_at(rows: &[u32], place: usize) -> ValueRow
     requires { ⌜ place < 65536 ⌝ }
     ensures { λ r. ⌜ valueOf r ≡ valueAt (now (rows .entry)) place ⌝ }
 {
@@ -85,7 +85,7 @@ fn wide(x: u32) -> usize
 }
 
 // Whether a row of the first n is malformed.
-fn any_bad(rows: &[u32], n: usize, received: &[u8], set: &[u8]) -> bool
+pub fn any_bad(rows: &[u32], n: usize, received: &[u8], set: &[u8]) -> bool
     requires { ⌜ n ≤ 128 ⌝ }
     ensures { λ r. ⌜ r ≡ badRows (sourcesOf (now (received .entry)) (now (set .entry))) (now (rows .entry)) n ⌝ }
 {

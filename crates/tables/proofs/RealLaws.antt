@@ -10,7 +10,7 @@ use lib.Dec.{eqb}
 use Rattle.definitions.specs.Basic.{isNone, among, concat}
 use Rattle.definitions.specs.Rows.{rowOf, rowsF, rowsOf, ieis, goodIei, allGood, fresh, goodRow, firstBadFrom, firstBad, placeFrom, placeOf, indexEntry, indexFrom, index, placeIn}
 use Rattle.definitions.specs.Mandatory.{mandatoryRowsF, mandatoryRowsOf, isHalf, nextIs, goodMandatory, firstBadMandatoryFrom, firstBadMandatory}
-use Rattle.definitions.specs.Tables.{tableOf, row, plain, tableP, optional1, optional2, optional3, optional4, optional5, optional6, mandatory1, mandatory2, mandatory3, mandatory4, mandatory5, mandatory6}
+use Rattle.definitions.specs.Tables.{tableOf, mandatoryTableOf, row, plain, tableP, optional1, optional2, optional3, optional4, optional5, optional6, mandatory1, mandatory2, mandatory3, mandatory4, mandatory5, mandatory6}
 use Rattle.definitions.proofs.RowLaws.{both}
 use Rattle.definitions.proofs.TableLaws.{index-place}
 use Rattle.tables.specs.Real.{index0, index1, index2, index3, index4, index5, index6, realOf, realIndexOf, realMandatoryOf}
@@ -69,7 +69,7 @@ real (suc (suc (suc (suc (suc (suc (suc n))))))) = rule [] (realIndexOf 7) refl
 
 -- the mandatory rows of each pass their check
 pub real-mandatory : (n : ℕ) → firstBadMandatory (mandatoryRowsOf (realMandatoryOf n)) ≡ none
-unfolding realMandatoryOf concat plain mandatoryRowsF mandatoryRowsOf isHalf nextIs goodMandatory firstBadMandatoryFrom firstBadMandatory mandatory1 mandatory2 mandatory3 mandatory4 mandatory5 mandatory6
+unfolding mandatoryTableOf concat plain mandatoryRowsF mandatoryRowsOf isHalf nextIs goodMandatory firstBadMandatoryFrom firstBadMandatory mandatory1 mandatory2 mandatory3 mandatory4 mandatory5 mandatory6
 real-mandatory zero = refl
 real-mandatory (suc zero) = refl
 real-mandatory (suc (suc zero)) = refl

@@ -1,0 +1,111 @@
+-- What a row finds: by its form where there is an octet, and the fault of a complete value.
+-- Each law settles the tests before it.
+use Prim.Native.Nat.{ℕ, zero, suc, _+_, _/_, _%_, _≤_, _<_}
+use native.Mathlib.Omega.{arith}
+use mathlib.Core.Path.{_≡_, refl, ap}
+use mathlib.Core.List.{List, [], _∷_}
+use mathlib.Core.Bool.{Bool, true, false}
+use mathlib.Core.Option.{Option, none, some}
+use borrow.Author.Tests.{le-leb, lt-leb, lt-ltb, le-ltb, leb-true}
+use lib.ListN.{length, getD, take, drop}
+use lib.Dec.{leb}
+use Rattle.definitions.specs.Basic.{pick, receivable}
+use Rattle.definitions.specs.Octets.{numberAt}
+use Rattle.definitions.specs.Mandatory.{MandatoryRow, MandatoryForm, lowHalf, highHalf, fixedV, lv, lv-e, mandatoryForm, Found as DefFound, missing, truncated, value, behind, counted, foundBy, faultOf}
+use Rattle.definitions.proofs.Octets.{number-one}
+use Rattle.mandatory.specs.Founds.{faultAs, foundAs}
+use Rattle.mandatory.specs.declared.ie.Fault.{Fault}
+use Rattle.mandatory.specs.declared.ie.Found.{Found}
+
+module _ (r : MandatoryRow) (took : ℕ) (v : List ℕ) where
+  pub fault-short : took < r .least → faultAs (faultOf r took v) ≡ Fault.TooShort
+  unfolding faultOf
+  fault-short h = rw (lt-ltb took (r .least) h)
+
+  pub fault-none : r .least ≤ took → receivable (r .kinds) v ≡ true → faultAs (faultOf r took v) ≡ Fault.Nothing
+  unfolding faultOf
+  fault-none h e = rw (le-ltb took (r .least) h, e)
+
+  pub fault-syntax : r .least ≤ took → receivable (r .kinds) v ≡ false → faultAs (faultOf r took v) ≡ Fault.Syntax
+  unfolding faultOf
+  fault-syntax h e = rw (le-ltb took (r .least) h, e)
+
+module _ (h n : ℕ) (s : List ℕ) where
+  pub behind-short : length s < h + n → behind h n s ≡ truncated
+  unfolding behind
+  behind-short l = rw (lt-leb (h + n) (length s) l)
+
+  pub behind-there : h + n ≤ length s → behind h n s ≡ value h n (h + n) (take n (drop h s))
+  unfolding behind
+  behind-there l = rw (le-leb (h + n) (length s) l)
+
+pub found-none : (f : MandatoryForm) (s : List ℕ) → length s ≡ 0 → foundBy f s ≡ missing
+unfolding foundBy
+found-none f [] e = refl
+found-none f (x ∷ s) e = absurd (omega arith)
+
+pub found-low : (s : List ℕ) → 0 < length s → foundBy lowHalf s ≡ value 0 1 0 ((getD s 0 0 % 16) ∷ [])
+unfolding foundBy
+found-low [] h = absurd (omega arith)
+found-low (x ∷ s) h = refl
+
+pub found-high : (s : List ℕ) → 0 < length s → foundBy highHalf s ≡ value 0 1 1 ((getD s 0 0 / 16) ∷ [])
+unfolding foundBy
+found-high [] h = absurd (omega arith)
+found-high (x ∷ s) h = refl
+
+pub found-fixed : (n : ℕ) (s : List ℕ) → 0 < length s → foundBy (fixedV n) s ≡ behind 0 n s
+unfolding foundBy
+found-fixed n [] h = absurd (omega arith)
+found-fixed n (x ∷ s) h = refl
+
+pub found-lv : (s : List ℕ) → 0 < length s → foundBy lv s ≡ behind 1 (getD s 0 0) s
+unfolding foundBy counted
+found-lv [] h = absurd (omega arith)
+found-lv (x ∷ s) h = ap (counted 1 (x ∷ s)) (number-one 0 (x ∷ s) (omega arith))
+
+pub found-lv-e : (s : List ℕ) → 0 < length s → foundBy lv-e s ≡ counted 2 s (numberAt 2 0 s)
+unfolding foundBy
+found-lv-e [] h = absurd (omega arith)
+found-lv-e (x ∷ s) h = refl
+
+-- ---- what a value takes lies within the octets
+
+abbrev Within : ℕ → DefFound → Type 0
+Within l missing = Unit
+Within l truncated = Unit
+Within l (value h n took v) = (took ≤ l) × (h + n ≤ l)
+
+behind-within : (h n : ℕ) (s : List ℕ) → Within (length s) (behind h n s)
+unfolding behind
+behind-within h n s = go (leb (h + n) (length s)) refl
+  where
+    go : (b : Bool) → leb (h + n) (length s) ≡ b → Within (length s) (pick b (value h n (h + n) (take n (drop h s))) truncated)
+    go true e = let l : h + n ≤ length s = leb-true (h + n) (length s) e in (l, l)
+    go false e = tt
+
+counted-within : (w : ℕ) (s : List ℕ) (o : Option ℕ) → Within (length s) (counted w s o)
+unfolding counted
+counted-within w s none = tt
+counted-within w s (some n) = behind-within w n s
+
+by-within : (f : MandatoryForm) (s : List ℕ) → Within (length s) (foundBy f s)
+unfolding foundBy
+by-within f [] = tt
+by-within lowHalf (x ∷ s) = (omega arith, omega arith)
+by-within highHalf (x ∷ s) = (omega arith, omega arith)
+by-within (fixedV n) (x ∷ s) = behind-within 0 n (x ∷ s)
+by-within lv (x ∷ s) = counted-within 1 (x ∷ s) (numberAt 1 0 (x ∷ s))
+by-within lv-e (x ∷ s) = counted-within 2 (x ∷ s) (numberAt 2 0 (x ∷ s))
+
+pub found-within : (r : MandatoryRow) (s : List ℕ) {h n took : ℕ} {fault : Fault} → foundAs r (foundBy (mandatoryForm r) s) ≡ Found.Value h n took fault → (took ≤ length s) × (h + n ≤ length s)
+found-within r s {h = h} {n = n} {took = took} {fault = fault} e = go (foundBy (mandatoryForm r) s) (by-within (mandatoryForm r) s) e
+  where
+    go : (f : DefFound) → Within (length s) f → foundAs r f ≡ Found.Value h n took fault → (took ≤ length s) × (h + n ≤ length s)
+    go missing w e = let z : _≡_ {A = ℕ} 0 1 = cc in absurd (omega arith)
+    go truncated w e = let z : _≡_ {A = ℕ} 0 1 = cc in absurd (omega arith)
+    go (value h′ n′ took′ v) w e =
+        let a : h′ ≡ h = cc in
+        let b : n′ ≡ n = cc in
+        let d : took′ ≡ took = cc in
+        (omega (arith, w .0), omega (arith, w .1))

@@ -1,0 +1,6 @@
+-- Laws of this crate's definitions.
+pub mod Finding
+pub mod Noting
+pub mod Rowing
+pub mod Judging
+pub mod Filling
