@@ -11,10 +11,10 @@ use borrow.Author.Tests.{lt-ltb, le-ltb}
 use Rattle.definitions.specs.Basic.{pick}
 use Rattle.definitions.specs.Elements.{Verdict, accepted, unknown, malformed, repeated, outOfSequence, Element as DefElement, ieiAt, elements, cutShort}
 use Rattle.definitions.specs.Listing.{ascii, decimalF, decimal, hex, word, space, newline, line, lines, listed}
-use Rattle.logs.specs.declared.ie_order.Placed.{Placed}
-use Rattle.logs.specs.declared.ie_order.IgnoredIeReason.{IgnoredIeReason}
-use Rattle.message.specs.Steps.{placedFor, elementOf}
-use Rattle.message.specs.declared.element.Element.{Element}
+use Rattle.order.specs.declared.Placed.{Placed}
+use Rattle.order.specs.declared.IgnoredIeReason.{IgnoredIeReason}
+use Rattle.elements.specs.Steps.{placedFor, elementOf}
+use Rattle.elements.specs.declared.element.Element.{Element}
 use Rattle.listing.specs.Lines.{wordOf, lineOf}
 
 -- ---- digits

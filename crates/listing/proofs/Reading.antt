@@ -12,14 +12,13 @@ use Rattle.definitions.specs.Rows.{rowsOf, firstBad}
 use Rattle.definitions.specs.Tables.{tableP, tableOf, startOf}
 use Rattle.definitions.specs.Elements.{Element as DefElement, Parted, elements, cutShort, elementsOf, before}
 use Rattle.definitions.specs.Listing.{ascii, heading, newline, lines, listed, listing}
-use Rattle.tables.proofs.RealLaws.{real}
-use Rattle.message.specs.Nexts.{startState, nextAs, nextFrom, nextOf}
-use Rattle.message.specs.declared.element.State.{State}
-use Rattle.message.specs.declared.element.Element.{Element}
-use Rattle.message.specs.declared.element.Step.{Step}
-use Rattle.message.specs.declared.next.NextElement.{NextElement}
-use Rattle.message.proofs.Nexts.{from, Nexts}
-use Rattle.message.proofs.Counting.{from-start}
+use Rattle.real.proofs.RealLaws.{real}
+use Rattle.elements.specs.Nexts.{startState, nextAs, nextFrom, nextOf}
+use Rattle.elements.specs.declared.element.State.{State}
+use Rattle.elements.specs.declared.element.Element.{Element}
+use Rattle.elements.specs.declared.element.Step.{Step}
+use Rattle.elements.specs.declared.next.NextElement.{NextElement}
+use Rattle.elements.proofs.Nexts.{from, Nexts, from-start}
 use Rattle.listing.specs.Puts.{Put}
 use Rattle.listing.specs.Lines.{lineOf}
 use Rattle.listing.specs.Parts.{stepAt, partedP, wholeOf}

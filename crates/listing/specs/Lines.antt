@@ -3,9 +3,9 @@ use Prim.Native.Nat.{ℕ}
 use mathlib.Core.List.{List, _++_}
 use Rattle.definitions.specs.Elements.{accepted, unknown, malformed, repeated, outOfSequence}
 use Rattle.definitions.specs.Listing.{decimal, hex, word, space, newline}
-use Rattle.logs.specs.declared.ie_order.Placed.{Placed}
-use Rattle.logs.specs.declared.ie_order.IgnoredIeReason.{IgnoredIeReason}
-use Rattle.message.specs.declared.element.Element.{Element}
+use Rattle.order.specs.declared.Placed.{Placed}
+use Rattle.order.specs.declared.IgnoredIeReason.{IgnoredIeReason}
+use Rattle.elements.specs.declared.element.Element.{Element}
 
 abbrev pub reasonWord : IgnoredIeReason → List ℕ
 reasonWord IgnoredIeReason.Malformed = word malformed

@@ -8,9 +8,9 @@ use Rattle.definitions.specs.Basic.{pick, over}
 use Rattle.definitions.specs.Rows.{rowsOf}
 use Rattle.definitions.specs.Tables.{tableP, startOf}
 use Rattle.definitions.specs.Elements.{Parted, elements, cutShort, step, parted}
-use Rattle.message.specs.Steps.{stepOf, metOf}
-use Rattle.message.specs.declared.element.State.{State}
-use Rattle.message.specs.declared.element.Step.{Step}
+use Rattle.elements.specs.Steps.{stepOf, metOf}
+use Rattle.elements.specs.declared.element.State.{State}
+use Rattle.elements.specs.declared.element.Step.{Step}
 use Rattle.listing.specs.declared.Whole.{Whole}
 use Rattle.listing.specs.declared.Listed.{Listed}
 

@@ -1,9 +1,9 @@
 // Text into a lent buffer from a position on, as far as there is room. Each answer is the position behind the text.
-use logs::ie_order::IgnoredIeReason;
-use logs::ie_order::Placed;
-use message::element::Element;
-use message::element::iei_of;
+use elements::element::Element;
+use elements::element::iei_of;
 use octets::put_slice;
+use order::IgnoredIeReason;
+use order::Placed;
 ghost use mathlib.Core.Path.{_≡_};
 ghost use mathlib.Core.List.{[], _∷_};
 ghost use Prim.Native.Nat.{_+_, _<_, _^_};

@@ -1,11 +1,11 @@
 // One mandatory row: what it finds at the front of the octets left.
-use message::element::receivable;
+use elements::element::receivable;
 use octets::Cursor;
 use octets::Pair;
-use tables::rows::MandatoryForm;
-use tables::rows::mandatory_form_at;
-use tables::rows::mandatory_kinds_at;
-use tables::rows::mandatory_least_at;
+use rows::columns::MandatoryForm;
+use rows::columns::mandatory_form_at;
+use rows::columns::mandatory_kinds_at;
+use rows::columns::mandatory_least_at;
 ghost use mathlib.Core.Path.{_≡_};
 ghost use mathlib.Core.List.{[], _∷_};
 ghost use Rattle.definitions.specs.Octets.{numberAt};

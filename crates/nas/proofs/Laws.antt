@@ -10,7 +10,7 @@ use lib.ListN.{length, set}
 use Rattle.definitions.specs.Basic.{Answer, answer, over, Used, mostLog}
 use Rattle.definitions.specs.Logs.{Placed, orderPush}
 use Rattle.definitions.proofs.Logs.{past-buffer, past-limit, not-long, asking-long, asking-bad}
-use Rattle.logs.specs.Answers.{lengthOf}
+use Rattle.length.specs.Answers.{lengthOf}
 use Rattle.nas.specs.Says.{putFrom, put, Says, lengthAs}
 use Rattle.nas.specs.Entries.{placedBy, pushPlaced}
 

@@ -4,11 +4,11 @@ use mathlib.Core.Path.{_≡_}
 use mathlib.Core.List.{List, [], _∷_}
 use lib.ListN.{getD}
 use Rattle.definitions.specs.Basic.{Answer, answer}
-use Rattle.logs.specs.declared.ie_order.Placed.{Placed}
-use Rattle.logs.specs.declared.ie_order.IgnoredIeReason.{IgnoredIeReason}
-use Rattle.message.specs.declared.element.Element.{Element}
-use Rattle.message.specs.declared.element.State.{State}
-use Rattle.message.specs.declared.next.NextElement.{NextElement}
+use Rattle.order.specs.declared.Placed.{Placed}
+use Rattle.order.specs.declared.IgnoredIeReason.{IgnoredIeReason}
+use Rattle.elements.specs.declared.element.Element.{Element}
+use Rattle.elements.specs.declared.element.State.{State}
+use Rattle.elements.specs.declared.next.NextElement.{NextElement}
 use Rattle.nas.specs.Says.{put, Says}
 
 -- position, places met from 0 to 63 and from 64 to 127, highest place

@@ -6,7 +6,7 @@ use mathlib.Core.Option.{Option, none, some}
 use lib.ListN.{set}
 use Rattle.definitions.specs.Basic.{Answer, answer}
 use Rattle.definitions.specs.Reading.{Read}
-use Rattle.logs.specs.declared.length.Length.{Length}
+use Rattle.length.specs.declared.Length.{Length}
 
 -- values stored one after the other from a place on; every other place is as it was. The four lent places are known by their
 -- number alone, which no contract tells as a length, so this is said by stores; with as many places as values it is `over`

@@ -1,28 +1,28 @@
 // Each answer as document 01's number, which is returned, and its values, in document 01's order, in the first of four lent
 // places; the others stay as they were.
-use logs::ie_order::Entry;
-use logs::ie_order::IgnoredIeReason;
-use logs::ie_order::Placed;
-use logs::length::Length;
-use logs::unknown_ies::Counted;
-use logs::unknown_ies::Got;
-use logs::unknown_ies::Pushed;
-use message::decode::Decoded;
-use message::decode::Room;
-use message::element::State;
-use message::next::NextElement;
-use message::show::Shown;
-use tables::check::Checked;
-use tables::index::Place;
+use elements::element::State;
+use elements::next::NextElement;
+use kept::Counted;
+use kept::Got;
+use kept::Pushed;
+use length::Length;
+use order::Entry;
+use order::IgnoredIeReason;
+use order::Placed;
+use reading::decode::Decoded;
+use reading::decode::Room;
+use rows::check::Checked;
+use rows::index::Place;
+use values::show::Shown;
 ghost use mathlib.Core.Path.{_≡_};
 ghost use mathlib.Core.List.{[], _∷_};
 ghost use Rattle.definitions.specs.Basic.{answer};
 ghost use Rattle.definitions.specs.Logs.{orderEntry};
-ghost use Rattle.logs.specs.Kept.{pushedAs, countedAs, gotAs};
-ghost use Rattle.logs.specs.Order.{placedAs, entryAs};
-ghost use Rattle.message.specs.Decodes.{roomAs, decodedAs};
-ghost use Rattle.message.specs.Shows.{shownAs};
-ghost use Rattle.tables.specs.Answers.{checkedAs, placeAs};
+ghost use Rattle.kept.specs.Kept.{pushedAs, countedAs, gotAs};
+ghost use Rattle.order.specs.Order.{placedAs, entryAs};
+ghost use Rattle.reading.specs.Decodes.{roomAs, decodedAs};
+ghost use Rattle.values.specs.Shows.{shownAs};
+ghost use Rattle.rows.specs.Answers.{checkedAs, placeAs};
 ghost use Rattle.nas.specs.Nexts.{stateNumbers, verdictNumber, NextSays};
 ghost use Rattle.nas.specs.Says.{put, Says, checkAnswer, placeAnswer, lengthAnswer, lengthAs};
 

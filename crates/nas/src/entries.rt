@@ -1,13 +1,13 @@
 // An entry of the order log from a number and an IEI.
-use logs::ie_order::Front;
-use logs::ie_order::IgnoredIeReason;
-use logs::ie_order::Placed;
-use logs::ie_order::order_push;
-use logs::unknown_ies::MOST_LOG;
-use logs::unknown_ies::Pushed;
+use kept::MOST_LOG;
+use kept::Pushed;
+use order::Front;
+use order::IgnoredIeReason;
+use order::Placed;
+use order::order_push;
 ghost use mathlib.Core.Path.{_≡_};
-ghost use Rattle.logs.specs.Kept.{pushedAs, usedOf};
-ghost use Rattle.logs.specs.Order.{frontAs};
+ghost use Rattle.kept.specs.Kept.{pushedAs, usedOf};
+ghost use Rattle.order.specs.Order.{frontAs};
 ghost use Rattle.nas.specs.Entries.{placedBy, orderPushBy};
 
 // 0 is an accepted element with its IEI, 1 to 4 are the others, whatever the IEI; a number over 4 is no entry.

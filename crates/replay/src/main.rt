@@ -1,14 +1,14 @@
 // Runs the recorded list on standard input through our reading, and prints how many cases there are of each number, how many
 // answers are the recorded ones in number, values and all lent memory, and each case that is not. README.md has the format.
-use message::decode::Decoded;
-use message::decode::Room;
-use message::decode::decode_optional_ies;
-use message::decode::decode_optional_ies_by;
 use octets::Cursor;
 use octets::Four;
 use octets::Pair;
 use octets::part;
 use octets::put_slice;
+use reading::decode::Decoded;
+use reading::decode::Room;
+use reading::decode::decode_optional_ies;
+use reading::decode::decode_optional_ies_by;
 
 // What all lent memory holds before a case.
 const LENT: u8 = 0xa5;

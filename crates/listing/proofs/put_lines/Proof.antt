@@ -7,7 +7,7 @@ use mathlib.Core.Bool.{false}
 use lib.ListN.{length}
 use Rattle.definitions.specs.Rows.{rowsOf}
 use Rattle.definitions.specs.Tables.{tableP, startOf}
-use Rattle.message.proofs.Nexts.{nexts, cuts, ends}
+use Rattle.elements.proofs.Nexts.{nexts, cuts, ends}
 use Rattle.listing.proofs.Reading.{Writing, written-start, written, written-all, never-cut}
 use borrow.Author.Needs.{needs}
 use Rattle.listing.proofs.put_lines.Statement.{statement}

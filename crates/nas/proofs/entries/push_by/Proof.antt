@@ -3,8 +3,8 @@
 use native.Mathlib.Omega.{arith}
 use mathlib.Core.Path.{ap, sym, _∙_}
 use Rattle.definitions.specs.Logs.{Logged}
-use Rattle.logs.specs.Kept.{usedOf}
-use Rattle.logs.specs.Order.{frontAs}
+use Rattle.kept.specs.Kept.{usedOf}
+use Rattle.order.specs.Order.{frontAs}
 use Rattle.nas.proofs.Laws.{entry-pushed, none-past, none-long, none-bad}
 use borrow.Author.Needs.{needs}
 use Rattle.nas.proofs.entries.push_by.Statement.{statement}

@@ -1,0 +1,6 @@
+-- Laws that proofs cite.
+pub mod Frames
+pub mod Came
+pub mod Steps
+pub mod Nexts
+pub mod Iterated

@@ -1,0 +1,128 @@
+-- `kept_push` takes document 01's checks in their order, each with its law, and then lends the rest of the log for the entry.
+-- What the walk over the used octets told decides 11; the numbers compared are the definition's.
+use Prim.Native.Nat.{_≤_}
+use native.Mathlib.Omega.{arith}
+use mathlib.Core.Path.{_≡_, ap, sym, _∙_}
+use mathlib.Core.List.{_∷_}
+use lib.ListN.{length, length-take, length-drop}
+use Rattle.definitions.specs.Logs.{keptEntry}
+use Rattle.definitions.proofs.Logs.{past-buffer, past-limit, count-short}
+use Rattle.definitions.proofs.Lists.{lent-over}
+use Rattle.kept.specs.Kept.{usedOf, toldBy}
+use Rattle.kept.proofs.Pushing.{push-used, push-large, push-over, push-bad, push-full, push-done, needed}
+use borrow.Author.Needs.{needs}
+use Rattle.kept.proofs.kept_push.Statement.{statement}
+use Rattle.kept.proofs.kept_push.Tie as tie
+
+returns : tie.Need-returns
+returns c = push-used (c .before .before .before .args .log .now) (c .before .before .before .args .octets .now) (c .before .before .before .args .used) (c .before .before .before .args .iei) (past-buffer 131070 (usedOf (c .before .before .before .args .log .now) (c .before .before .before .args .used)) (omega arith))
+
+returns-2 : tie.Need-returns-2
+returns-2 c = push-used (c .before .before .before .before .args .log .now) (c .before .before .before .before .args .octets .now) (c .before .before .before .before .args .used) (c .before .before .before .before .args .iei) (past-limit 131070 (usedOf (c .before .before .before .before .args .log .now) (c .before .before .before .before .args .used)) (omega arith))
+
+returns-3 : tie.Need-returns-3
+returns-3 c = push-large (c .before .before .before .before .before .args .log .now) (c .before .before .before .before .before .args .octets .now) (c .before .before .before .before .before .args .used) (c .before .before .before .before .before .args .iei) (omega arith)
+
+add-n : tie.Need-add-n
+add-n c = search needs
+
+count-len-requires : tie.Need-count-len-requires
+count-len-requires c κs = search needs
+
+add-need : tie.Need-add-need
+add-need c =
+    let r : c .count-len .result ≤ 3 = rw (c .count-len .ensures) (count-short _) in omega arith
+
+add-if4 : tie.Need-add-if4
+add-if4 c =
+    let r : c .count-len .result ≤ 3 = rw (c .count-len .ensures) (count-short _) in omega arith
+
+returns-4 : tie.Need-returns-4
+returns-4 c = push-over (c .before .before .before .before .before .before .before .args .log .now) (c .before .before .before .before .before .before .before .args .octets .now) (c .before .before .before .before .before .before .before .args .used) (c .before .before .before .before .before .before .before .args .iei) (c .before .count-len .result) (c .before .count-len .ensures) (omega arith)
+
+slice-reshare-prefix-walk-kept : tie.Need-slice-reshare-prefix-walk-kept
+slice-reshare-prefix-walk-kept c = search needs
+
+slice-aggregate-walk-kept : tie.Need-slice-aggregate-walk-kept
+slice-aggregate-walk-kept c = simp length-take (omega arith)
+
+walk-kept-requires : tie.Need-walk-kept-requires
+walk-kept-requires c κs = search needs
+
+enum-told : tie.Need-enum-told
+enum-told c = search needs
+
+add-if5 : tie.Need-add-if5
+add-if5 c = search needs
+
+same-length : tie.Need-same-length
+same-length c = search needs
+
+returns-5 : tie.Need-returns-5
+unfolding toldBy
+returns-5 c = push-full (c .before .before .before .before .before .before .before .before .before .before .before .before .args .log .now) (c .before .before .before .before .before .before .before .before .before .before .before .before .args .octets .now) (c .before .before .before .before .before .before .before .before .before .before .before .before .args .used) (c .before .before .before .before .before .before .before .before .before .before .before .before .args .iei) (c .before .before .before .before .before .before .count-len .result) (c .before .before .before .before .before .before .count-len .ensures) (omega arith) (omega arith) (omega arith) (ap toldBy (sym (c .before .enum-told .given .1)) ∙ c .before .before .before .walk-kept .ensures) (omega arith)
+
+sub-put-entry : tie.Need-sub-put-entry
+sub-put-entry c = search needs
+
+part-put-entry-start : tie.Need-part-put-entry-start
+part-put-entry-start c = search needs
+
+part-put-entry-end : tie.Need-part-put-entry-end
+part-put-entry-end c = search needs
+
+put-entry-requires : tie.Need-put-entry-requires
+put-entry-requires c κs = (omega arith, simp (length-take, length-drop) (omega (arith, needed (c .before .before .before .before .before .before .before .before .before .before .before .before .before .args .log .now) (c .before .before .before .before .before .before .before .before .before .before .before .before .before .args .octets .now) (c .before .before .before .before .before .before .before .before .before .before .before .before .before .args .used) (c .before .before .before .before .before .before .before .before .before .before .before .before .before .args .iei) (c .before .before .before .before .before .before .before .count-len .result) (c .before .before .before .before .before .before .before .count-len .ensures))))
+
+add-t14 : tie.Need-add-t14
+add-t14 c = search needs
+
+enum-told-2 : tie.Need-enum-told-2
+enum-told-2 c = search needs
+
+same-length-2 : tie.Need-same-length-2
+same-length-2 c = search needs
+
+returns-6 : tie.Need-returns-6
+unfolding toldBy
+returns-6 c =
+    let a = c .before .before .before .before .before .before .before .before .before .before .before .before .before .before .before .before .args in
+    let p = push-done (c .before .before .before .before .before .before .before .before .before .before .before .before .before .before .before .before .args .log .now) (c .before .before .before .before .before .before .before .before .before .before .before .before .before .before .before .before .args .octets .now) (c .before .before .before .before .before .before .before .before .before .before .before .before .before .before .before .before .args .used) (c .before .before .before .before .before .before .before .before .before .before .before .before .before .before .before .before .args .iei) (c .before .before .before .before .before .before .before .before .before .before .count-len .result) (c .before .before .before .before .before .before .before .before .before .before .count-len .ensures) (omega arith) (omega arith) (omega arith) (ap toldBy (sym (c .before .before .before .before .before .enum-told .given .1)) ∙ c .before .before .before .before .before .before .before .walk-kept .ensures) (omega arith) in
+    (p .0, rw (c .before .before .put-entry .ensures) (lent-over (a .used) (keptEntry (a .iei ∷ a .octets .now)) (a .log .now) (omega arith)) ∙ p .1)
+
+same-length-3 : tie.Need-same-length-3
+same-length-3 c = search needs
+
+returns-7 : tie.Need-returns-7
+unfolding toldBy
+returns-7 c = push-bad (c .before .before .before .before .before .before .before .before .before .before .before .args .log .now) (c .before .before .before .before .before .before .before .before .before .before .before .args .octets .now) (c .before .before .before .before .before .before .before .before .before .before .before .args .used) (c .before .before .before .before .before .before .before .before .before .before .before .args .iei) (c .before .before .before .before .before .count-len .result) (c .before .before .before .before .before .count-len .ensures) (omega arith) (omega arith) (omega arith) (ap toldBy (sym (c .enum-told2 .given .1)) ∙ c .before .before .walk-kept .ensures)
+
+pub kept-push-spec : {M : Type 1} → statement M
+kept-push-spec =
+    tie.close
+    (tie.spec
+    returns
+    returns-2
+    returns-3
+    add-n
+    count-len-requires
+    add-need
+    add-if4
+    returns-4
+    slice-reshare-prefix-walk-kept
+    slice-aggregate-walk-kept
+    walk-kept-requires
+    enum-told
+    add-if5
+    same-length
+    returns-5
+    sub-put-entry
+    part-put-entry-start
+    part-put-entry-end
+    put-entry-requires
+    add-t14
+    enum-told-2
+    same-length-2
+    returns-6
+    same-length-3
+    returns-7)

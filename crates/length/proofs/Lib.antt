@@ -1,0 +1,2 @@
+-- Laws of the answers that proofs cite.
+pub mod Laws

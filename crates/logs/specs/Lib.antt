@@ -1,4 +1,0 @@
--- What the answers of this crate are by the definitions.
-pub mod Answers
-pub mod Kept
-pub mod Order

@@ -1,0 +1,9 @@
+-- Laws that the proofs of this crate cite.
+pub mod Tallies
+pub mod Counting
+pub mod Accepted
+pub mod Filling
+pub mod Lining
+pub mod Entered
+pub mod Decoding
+pub mod SameAnswers

@@ -1,0 +1,169 @@
+-- `fill_elements` enters an element a turn: the invariant says that what is left to enter gives what the whole part gives.
+-- The measure is what is left of the part; a part that decodes is never cut short.
+use Prim.Native.Nat.{_-_}
+use native.Mathlib.Omega.{arith}
+use mathlib.Core.Bool.{false}
+use mathlib.Core.Path.{_≡_, refl, _∙_}
+use mathlib.Core.Logic.{⊎-elim, inl, inr}
+use lib.ListN.{length, getD, drop}
+use Rattle.definitions.specs.Rows.{rowsOf}
+use Rattle.definitions.specs.Elements.{step}
+use Rattle.definitions.proofs.Lists.{to-end}
+use Rattle.elements.specs.Steps.{stepOf, metOf, foundAt, stateAfter}
+use Rattle.elements.specs.declared.element.State.{State}
+use Rattle.elements.specs.declared.element.Element.{Element}
+use Rattle.elements.proofs.Came.{Ways, came-here}
+use Rattle.elements.proofs.Nexts.{Nexts, nexts, cuts, at-end}
+use Rattle.reading.proofs.Filling.{Filling, begun, row-fits, kept-fits, order-fits, filled, moved, ended, never-cut}
+use borrow.Author.Needs.{needs}
+use Rattle.reading.proofs.fill.fill_elements.Statement.{statement}
+use Rattle.reading.proofs.fill.fill_elements.Tie as tie
+
+abbrev Inv-loop : tie.InvT-loop
+Inv-loop octets table index tlve-start option rows₀ kept₀ order₀ state₀ k₀ o₀ rows kept order state k o =
+    Filling table index tlve-start option false octets rows₀ kept₀ order₀ state k o rows kept order
+
+abbrev μ-loop : tie.MeasureT-loop
+μ-loop octets table index tlve-start option rows₀ kept₀ order₀ state₀ k₀ o₀ rows kept order state k o = length octets - state .at
+
+loop-holds : tie.Need-loop-holds Inv-loop μ-loop
+loop-holds c = let a = c .before .before .before .before .before .args in begun (a .table .now) (a .index .now) (a .tlve-start) (a .option) false (a .octets .now) (a .rows .now) (a .kept .now) (a .order .now) (c .before .before .before .before .before .pre)
+
+same-length : tie.Need-same-length Inv-loop μ-loop
+same-length c = c .before .loop .inv .rows-long
+
+same-length-2 : tie.Need-same-length-2 Inv-loop μ-loop
+same-length-2 c = c .before .loop .inv .kept-long
+
+same-length-3 : tie.Need-same-length-3 Inv-loop μ-loop
+same-length-3 c = c .before .loop .inv .order-long
+
+returns : tie.Need-returns Inv-loop μ-loop
+returns c = let a = c .before .before .before .before .before .before .before .args in let l = c .before .loop in ended (a .table .now) (a .index .now) (a .tlve-start) (a .option) false (a .octets .now) (a .rows .now) (a .kept .now) (a .order .now) (c .before .before .before .before .before .before .before .pre) (l .state) (l .k) (l .o) (l .rows) (l .kept) (l .order) (l .inv) (at-end (rowsOf (a .table .now)) (a .tlve-start) (a .option) (a .octets .now) (l .state) (l .inv .within) (omega arith))
+
+shared-slice-read-x : tie.Need-shared-slice-read-x Inv-loop μ-loop
+shared-slice-read-x c = search needs
+
+iei-of-requires : tie.Need-iei-of-requires Inv-loop μ-loop
+iei-of-requires c κs = search needs
+
+entry-of-requires : tie.Need-entry-of-requires Inv-loop μ-loop
+entry-of-requires c κs = search needs
+
+sub-left : tie.Need-sub-left Inv-loop μ-loop
+sub-left c = search needs
+
+part-left-start : tie.Need-part-left-start Inv-loop μ-loop
+part-left-start c = search needs
+
+part-left-end : tie.Need-part-left-end Inv-loop μ-loop
+part-left-end c = search needs
+
+came-unknown-requires : tie.Need-came-unknown-requires Inv-loop μ-loop
+came-unknown-requires c κs = search needs
+
+numbers-at-requires : tie.Need-numbers-at-requires Inv-loop μ-loop
+numbers-at-requires c κs = search needs
+
+seen-has-requires : tie.Need-seen-has-requires Inv-loop μ-loop
+seen-has-requires c κs = search needs
+
+came-known-requires : tie.Need-came-known-requires Inv-loop μ-loop
+came-known-requires c κs = search needs
+
+enum-known-came : tie.Need-enum-known-came Inv-loop μ-loop
+enum-known-came c = search needs
+
+-- how the element came, by the way to it, and the step that this is
+ways : (c : tie.Joined2 Inv-loop μ-loop) → let a = c .before .before .before .before .before .before .before .before .before .before .before .before .before .args in let s = c .before .before .before .before .before .before .before .loop .state in Ways (a .table .now) (a .index .now) (c .before .before .before .before .before .before .before .before .before .before .before .before .before .pre .indexed) (a .tlve-start) (a .option) (a .octets .now) s (c .before .before .before .before .before .before .before .loop .inv .low) (omega arith) (getD (a .octets .now) (s .at) 0) (c .before .before .before .before .iei-of .result) (c .before .before .before .entry-of .result) (c .if2 .came′)
+ways c =
+    ⊎-elim
+    (λ w. inl (w .0 .taken, w .2 ∙ rw to-end at (w .1 .ensures)))
+    (λ w. inr (w .0 .left, w .4 ∙ rw (to-end, w .1 .ensures, w .2 .ensures) at (w .3 .ensures)))
+    (c .if2 .came)
+
+here : (c : tie.Joined2 Inv-loop μ-loop) → let a = c .before .before .before .before .before .before .before .before .before .before .before .before .before .args in let s = c .before .before .before .before .before .before .before .loop .state in foundAt s (getD (a .octets .now) (s .at) 0) (c .before .before .before .before .iei-of .result) (c .before .before .before .entry-of .result) (length (drop (s .at) (a .octets .now))) (c .if2 .came′) ≡ stepOf (step (rowsOf (a .table .now)) (a .tlve-start) (a .option) (metOf s) (s .at) (drop (s .at) (a .octets .now)))
+here c =
+    let a = c .before .before .before .before .before .before .before .before .before .before .before .before .before .args in
+    came-here (a .table .now) (a .index .now) (c .before .before .before .before .before .before .before .before .before .before .before .before .before .pre .indexed) (a .tlve-start) (a .option) (a .octets .now) (c .before .before .before .before .before .before .before .loop .state) (c .before .before .before .before .before .before .before .loop .inv .low) (omega arith) _ _ _ refl (c .before .before .before .before .iei-of .ensures) (omega arith) (c .before .before .before .entry-of .ensures) (c .if2 .came′) (ways c)
+
+-- the element that was found, and the state behind it
+abbrev element : tie.After-known-told Inv-loop μ-loop → Element
+element c = record { start = c .before .before .before .before .before .before .before .before .before .before .loop .state .at; len = c .before .came .given .0 .0; iei = c .before .before .before .before .before .before .before .iei-of .result; place = c .before .before .before .before .before .before .entry-of .result; placed = c .before .came .given .0 .1 .0 }
+
+abbrev behind : tie.After-known-told Inv-loop μ-loop → State
+behind c = stateAfter (c .before .before .before .before .before .before .before .before .before .before .loop .state) (c .before .before .before .before .before .before .entry-of .result) (c .before .came .given .0 .0)
+
+next : (c : tie.After-known-told Inv-loop μ-loop) → let a = c .before .before .before .before .before .before .before .before .before .before .before .before .before .before .before .before .args in Nexts (rowsOf (a .table .now)) (a .tlve-start) (a .option) (a .octets .now) (c .before .before .before .before .before .before .before .before .before .before .loop .state) (element c) (behind c)
+next c = let a = c .before .before .before .before .before .before .before .before .before .before .before .before .before .before .before .before .args in nexts (rowsOf (a .table .now)) (a .tlve-start) (a .option) (a .octets .now) (c .before .before .before .before .before .before .before .before .before .before .loop .state) (c .before .before .before .before .before .before .before .before .before .before .loop .inv .within) _ _ (rw (c .before .came .given .1) at (here (c .before .before .before)))
+
+enter-row-requires : tie.Need-enter-row-requires Inv-loop μ-loop
+enter-row-requires c κs = let a = c .before .before .before .before .before .before .before .before .before .before .before .before .before .before .before .before .before .args in let l = c .before .before .before .before .before .before .before .before .before .before .before .loop in (c .before .before .before .before .before .before .before .before .before .before .before .before .before .before .before .before .before .pre .indexed .whole, row-fits (a .table .now) (a .index .now) (a .tlve-start) (a .option) false (a .octets .now) (a .rows .now) (a .kept .now) (a .order .now) (c .before .before .before .before .before .before .before .before .before .before .before .before .before .before .before .before .before .pre) (l .state) (behind (c .before)) (element (c .before)) (l .k) (l .o) (l .rows) (l .kept) (l .order) (l .inv) (next (c .before)))
+
+keep-requires : tie.Need-keep-requires Inv-loop μ-loop
+keep-requires c κs = let a = c .before .before .before .before .before .before .before .before .before .before .before .before .before .before .before .before .before .before .before .before .before .args in let l = c .before .before .before .before .before .before .before .before .before .before .before .before .before .before .before .loop in let n = next (c .before .before .before .before .before) in (omega (arith, n .starts, n .within), n .some-octet, omega (arith, n .within, c .before .before .before .before .before .before .before .before .before .before .before .before .before .before .before .before .before .before .before .before .before .pre .short), omega (arith, kept-fits (a .table .now) (a .index .now) (a .tlve-start) (a .option) false (a .octets .now) (a .rows .now) (a .kept .now) (a .order .now) (c .before .before .before .before .before .before .before .before .before .before .before .before .before .before .before .before .before .before .before .before .before .pre) (l .state) (behind (c .before .before .before .before .before)) (element (c .before .before .before .before .before)) (l .k) (l .o) (l .rows) (l .kept) (l .order) (l .inv) (next (c .before .before .before .before .before))))
+
+note-requires : tie.Need-note-requires Inv-loop μ-loop
+note-requires c κs = let a = c .before .before .before .before .before .before .before .before .before .before .before .before .before .before .before .before .before .before .before .before .before .before .before .before .before .args in let l = c .before .before .before .before .before .before .before .before .before .before .before .before .before .before .before .before .before .before .before .loop in omega (arith, order-fits (a .table .now) (a .index .now) (a .tlve-start) (a .option) false (a .octets .now) (a .rows .now) (a .kept .now) (a .order .now) (c .before .before .before .before .before .before .before .before .before .before .before .before .before .before .before .before .before .before .before .before .before .before .before .before .before .pre) (l .state) (behind (c .before .before .before .before .before .before .before .before .before)) (element (c .before .before .before .before .before .before .before .before .before)) (l .k) (l .o) (l .rows) (l .kept) (l .order) (l .inv) (next (c .before .before .before .before .before .before .before .before .before)))
+
+add-after : tie.Need-add-after Inv-loop μ-loop
+add-after c = let n = next (c .before .before .before .before .before .before .before .before .before .before .before .before) in omega (arith, n .within, c .before .before .before .before .before .before .before .before .before .before .before .before .before .before .before .before .before .before .before .before .before .before .before .before .before .before .before .before .pre .short)
+
+after-requires : tie.Need-after-requires Inv-loop μ-loop
+after-requires c κs = search needs
+
+loop-less : tie.Need-loop-less Inv-loop μ-loop
+loop-less c = let n = next (c .before .before .before .before .before .before .before .before .before .before .before .before .before) in rw (c .after .ensures) (omega (arith, n .further, n .within, n .some-octet))
+
+loop-again : tie.Need-loop-again Inv-loop μ-loop
+loop-again c = let a = c .before .before .before .before .before .before .before .before .before .before .before .before .before .before .before .before .before .before .before .before .before .before .before .before .before .before .before .before .before .args in let l = c .before .before .before .before .before .before .before .before .before .before .before .before .before .before .before .before .before .before .before .before .before .before .before .loop in moved (a .table .now) (a .index .now) (a .tlve-start) (a .option) false (a .octets .now) (a .rows .now) (a .kept .now) (a .order .now) (rw (← c .after .ensures) at (filled (a .table .now) (a .index .now) (a .tlve-start) (a .option) false (a .octets .now) (a .rows .now) (a .kept .now) (a .order .now) (c .before .before .before .before .before .before .before .before .before .before .before .before .before .before .before .before .before .before .before .before .before .before .before .before .before .before .before .before .before .pre) (l .state) (behind (c .before .before .before .before .before .before .before .before .before .before .before .before .before)) (element (c .before .before .before .before .before .before .before .before .before .before .before .before .before)) (l .k) (l .o) (l .rows) (l .kept) (l .order) (l .inv) (next (c .before .before .before .before .before .before .before .before .before .before .before .before .before)))) (c .before .before .before .before .before .before .before .keep .ensures .0) (c .before .before .before .note .ensures .0) (c .before .before .before .before .before .before .before .before .before .before .before .enter-row .ensures) (c .before .before .before .before .before .before .before .keep .ensures .1) (c .before .before .before .note .ensures .1)
+
+enum-told : tie.Need-enum-told Inv-loop μ-loop
+enum-told c = search needs
+
+same-length-4 : tie.Need-same-length-4 Inv-loop μ-loop
+same-length-4 c = c .before .before .before .before .before .before .before .before .before .loop .inv .rows-long
+
+same-length-5 : tie.Need-same-length-5 Inv-loop μ-loop
+same-length-5 c = c .before .before .before .before .before .before .before .before .before .loop .inv .kept-long
+
+same-length-6 : tie.Need-same-length-6 Inv-loop μ-loop
+same-length-6 c = c .before .before .before .before .before .before .before .before .before .loop .inv .order-long
+
+returns-2 : tie.Need-returns-2 Inv-loop μ-loop
+returns-2 c = let a = c .before .before .before .before .before .before .before .before .before .before .before .before .before .before .before .args in let l = c .before .before .before .before .before .before .before .before .before .loop in absurd (never-cut (a .table .now) (a .index .now) (a .tlve-start) (a .option) false (a .octets .now) (a .rows .now) (a .kept .now) (a .order .now) (c .before .before .before .before .before .before .before .before .before .before .before .before .before .before .before .pre) (l .inv) (cuts (rowsOf (a .table .now)) (a .tlve-start) (a .option) (a .octets .now) (l .state) (l .inv .within) (rw (c .enum-told .given .1) at (here (c .before .before)))))
+
+pub fill-elements-spec : {M : Type 1} → statement M
+fill-elements-spec =
+    tie.close
+    (tie.spec
+    Inv-loop
+    μ-loop
+    loop-holds
+    same-length
+    same-length-2
+    same-length-3
+    returns
+    shared-slice-read-x
+    iei-of-requires
+    entry-of-requires
+    sub-left
+    part-left-start
+    part-left-end
+    came-unknown-requires
+    numbers-at-requires
+    seen-has-requires
+    came-known-requires
+    enum-known-came
+    enter-row-requires
+    keep-requires
+    note-requires
+    add-after
+    after-requires
+    loop-less
+    loop-again
+    enum-told
+    same-length-4
+    same-length-5
+    same-length-6
+    returns-2)

@@ -1,0 +1,94 @@
+-- What an element found leaves in the lent rows and logs, by how it came.
+use Prim.Native.Nat.{ℕ, _+_, _*_, _-_, _≤_, _<_}
+use mathlib.Core.List.{List, [], _∷_}
+use mathlib.Core.Bool.{Bool, true, false}
+use lib.ListN.{length, take, drop}
+use Rattle.definitions.specs.Basic.{over, overAt}
+use mathlib.Core.Path.{_≡_}
+use mathlib.Core.Option.{none}
+use Rattle.definitions.specs.Rows.{Row, rowsOf, rowAt, form, firstBad}
+use Rattle.definitions.specs.Elements.{Element as DefElement, elements, elementsOf, parted}
+use Rattle.definitions.specs.Length.{header}
+use Rattle.definitions.specs.Logs.{keptEntry, orderEntry, keptOf, entriesOf, plainFrom}
+use Rattle.definitions.specs.Reading.{placeRows}
+use Rattle.order.specs.Order.{placedAs}
+use Rattle.order.specs.declared.Placed.{Placed}
+use Rattle.elements.specs.Steps.{elementOf}
+use Rattle.rows.specs.Indexed.{Indexed}
+use Rattle.elements.specs.declared.element.Element.{Element}
+
+-- ---- the place rows
+
+-- the octets before the value of an element of a place
+abbrev pub before : List Row → ℕ → ℕ
+before t place = header (form (rowAt t place))
+
+abbrev pub rowBy : List Row → ℕ → ℕ → ℕ → List ℕ → Placed → List ℕ
+rowBy t place start len rows (Placed.Known iei) = overAt (3 * place) (1 ∷ (start + before t place) ∷ (len - before t place) ∷ []) rows
+rowBy t place start len rows Placed.Unknown = rows
+rowBy t place start len rows (Placed.Ignored r) = rows
+
+unfoldable pub rowEntered : List Row → Element → List ℕ → List ℕ
+rowEntered t e rows = rowBy t (e .place) (e .start) (e .len) rows (e .placed)
+
+-- an accepted element's row is there, and its numbers are of 32 bits
+abbrev pub RowFitsBy : List Row → ℕ → ℕ → ℕ → List ℕ → Placed → Type 0
+RowFitsBy t place start len rows (Placed.Known iei) = (3 * place + 3 ≤ length rows) × (before t place ≤ len) × (start + len < 65536)
+RowFitsBy t place start len rows Placed.Unknown = Unit
+RowFitsBy t place start len rows (Placed.Ignored r) = Unit
+
+abbrev pub RowFits : List Row → Element → List ℕ → Type 0
+RowFits t e rows = RowFitsBy t (e .place) (e .start) (e .len) rows (e .placed)
+
+-- ---- the kept log
+
+-- the entry of an element: none of one that is accepted
+abbrev pub entryBy : List ℕ → Placed → List ℕ
+entryBy octets (Placed.Known iei) = []
+entryBy octets Placed.Unknown = keptEntry octets
+entryBy octets (Placed.Ignored r) = keptEntry octets
+
+unfoldable pub keptOfFound : Element → List ℕ → List ℕ
+keptOfFound e octets = entryBy (take (e .len) (drop (e .start) octets)) (e .placed)
+
+-- ---- the order log
+
+-- the entry of an element: none where the table says it all
+abbrev pub noteBy : Bool → Placed → List ℕ
+noteBy true p = []
+noteBy false p = orderEntry (placedAs p)
+
+-- ---- a whole part
+
+-- the rows with every element entered, one after the other
+unfoldable pub enteredAll : List Row → List DefElement → List ℕ → List ℕ
+enteredAll t [] rows = rows
+enteredAll t (e ∷ es) rows = enteredAll t es (rowEntered t (elementOf e) rows)
+
+-- the order log, unless the table says it all
+abbrev pub notesOf : Bool → List DefElement → List ℕ
+notesOf true es = []
+notesOf false es = entriesOf es
+
+-- a part that decodes, under a table that passes and its index, with room for what it needs; plain where the table says it all
+pub record Ready (table index : List ℕ) (start : ℕ) (option plain : Bool) (part rows kept order : List ℕ) : Type 0 where
+  pub indexed : Indexed table index
+  pub passes : firstBad (rowsOf table) ≡ none
+  pub short : length part ≤ 65535
+  pub decodes : parted (rowsOf table) start option part ≡ elements (elementsOf (parted (rowsOf table) start option part))
+  pub plain-is : plain ≡ plainFrom (rowsOf table) 0 (elementsOf (parted (rowsOf table) start option part))
+  pub rows-room : 3 * length (rowsOf table) ≤ length rows
+  pub kept-room : length (keptOf (elementsOf (parted (rowsOf table) start option part))) ≤ length kept
+  pub order-room : length (notesOf plain (elementsOf (parted (rowsOf table) start option part))) ≤ length order
+
+-- what filling leaves
+pub record Filled (t : List Row) (plain : Bool) (es : List DefElement) (rows kept order rows′ kept′ order′ : List ℕ) : Type 0 where
+  pub rows-are : rows′ ≡ enteredAll t es rows
+  pub kept-is : kept′ ≡ over (keptOf es) kept
+  pub order-is : order′ ≡ over (notesOf plain es) order
+
+-- what is written of a part: the rows of its places, and both logs
+pub record Written (t : List Row) (plain : Bool) (es : List DefElement) (rows kept order rows′ kept′ order′ : List ℕ) : Type 0 where
+  pub rows-are : rows′ ≡ over (placeRows t es) rows
+  pub kept-is : kept′ ≡ over (keptOf es) kept
+  pub order-is : order′ ≡ over (notesOf plain es) order

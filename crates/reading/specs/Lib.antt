@@ -1,0 +1,4 @@
+-- What the answers of this crate are by the definitions.
+pub mod Measures
+pub mod Fills
+pub mod Decodes

@@ -1,0 +1,308 @@
+// Reading an optional part by a table.
+use crate::fill::fill;
+use crate::measure::Measured;
+use crate::measure::measure;
+use octets::MOST_OCTETS;
+use real::INDEX_P;
+use real::INDEX_PDU_SESSION_ESTABLISHMENT_ACCEPT;
+use real::INDEX_PDU_SESSION_ESTABLISHMENT_REQUEST;
+use real::INDEX_REGISTRATION_ACCEPT;
+use real::INDEX_REGISTRATION_REJECT;
+use real::INDEX_REGISTRATION_REQUEST;
+use real::INDEX_SERVICE_REQUEST;
+use real::PDU_SESSION_ESTABLISHMENT_ACCEPT;
+use real::PDU_SESSION_ESTABLISHMENT_REQUEST;
+use real::REGISTRATION_ACCEPT;
+use real::REGISTRATION_REJECT;
+use real::REGISTRATION_REQUEST;
+use real::SERVICE_REQUEST;
+use real::TABLE_P;
+use rows::check::Checked;
+use rows::check::check_and_index;
+use rows::columns::places;
+ghost use mathlib.Core.Path.{_≡_};
+ghost use mathlib.Core.Option.{none};
+ghost use Prim.Native.Nat.{_*_, _≤_};
+ghost use lib.ListN.{length};
+ghost use Rattle.definitions.specs.Rows.{rowsOf, firstBad};
+ghost use Rattle.definitions.specs.Basic.{pick};
+ghost use Rattle.definitions.specs.Reading.{reading, readingBy};
+ghost use Rattle.real.specs.Real.{realOf};
+ghost use Rattle.rows.specs.Indexed.{Indexed};
+ghost use Rattle.reading.specs.Decodes.{lentOf, Reads};
+
+// What a refusal for want of room names.
+pub enum Room {
+    Rows,
+    Kept,
+    Order,
+}
+
+// What reading answers: the octets used of the kept log and the order log, or a refusal.
+pub enum Decoded {
+    Done(usize, usize),
+    CutShort(usize, u8, usize),
+    NoRoom(Room),
+    TooLong,
+    BadTable(usize),
+    NoTable,
+}
+
+// By a table that passes its check, and its index.
+fn decode_by_index(
+    octets: &[u8],
+    table: &[u32],
+    index: &[u8; 256],
+    tlve_start: u8,
+    option: bool,
+    rows: &mut [u32],
+    kept: &mut [u8],
+    order: &mut [u8],
+) -> Decoded
+    requires { ⌜ Indexed (now table) (now index) × (firstBad (rowsOf (now table)) ≡ none) ⌝ }
+    ensures { λ r. ⌜ Reads (reading (now (table .entry)) «tlve_start» option (now (octets .entry)) (lentOf (now (rows .entry)) (now (kept .entry)) (now (order .entry)))) r (now (rows .exit)) (now (kept .exit)) (now (order .exit)) ⌝ }
+{
+    if octets.len() > MOST_OCTETS {
+        return Decoded::TooLong;
+    }
+    if rows.len() < 3 * places(table) {
+        return Decoded::NoRoom(Room::Rows);
+    }
+    match measure(octets, table, index, tlve_start, option) {
+        Measured::Cut(start, x, left) => Decoded::CutShort(start, x, left),
+        Measured::Needs(k, all, plain) => {
+            let o = entries_needed(all, plain);
+            if kept.len() < k {
+                return Decoded::NoRoom(Room::Kept);
+            }
+            if order.len() < o {
+                return Decoded::NoRoom(Room::Order);
+            }
+            fill(
+                octets,
+                table,
+                index,
+                tlve_start,
+                option,
+                plain,
+                rows,
+                kept,
+                order,
+            );
+            Decoded::Done(k, o)
+        }
+    }
+}
+
+// The octets of the order log: none where the table says it all.
+fn entries_needed(all: usize, plain: bool) -> usize
+    ensures { λ r. ⌜ r ≡ pick plain 0 all ⌝ }
+{
+    if plain {
+        return 0;
+    }
+    all
+}
+
+// By a lent table: the start number of the long form, and whether elements out of sequence are taken.
+pub fn decode_optional_ies(
+    octets: &[u8],
+    table: &[u32],
+    tlve_start: u8,
+    out_of_sequence: bool,
+    rows: &mut [u32],
+    kept: &mut [u8],
+    order: &mut [u8],
+) -> Decoded
+    ensures { λ r. ⌜ Reads (reading (now (table .entry)) «tlve_start» «out_of_sequence» (now (octets .entry)) (lentOf (now (rows .entry)) (now (kept .entry)) (now (order .entry)))) r (now (rows .exit)) (now (kept .exit)) (now (order .exit)) ⌝ }
+{
+    let mut index = [255u8; 256];
+    match check_and_index(table, &mut index) {
+        Checked::Passes => decode_by_index(
+            octets,
+            table,
+            &index,
+            tlve_start,
+            out_of_sequence,
+            rows,
+            kept,
+            order,
+        ),
+        Checked::BadRow(k) => Decoded::BadTable(k),
+    }
+}
+
+// ---- by table number: 0 is P, 1 to 6 the real tables. Each has its constant index, and is proved to pass its check.
+
+// The start number of the long form, for all of them.
+const TLVE_START: u8 = 0x70;
+
+fn decode_p(
+    octets: &[u8],
+    option: bool,
+    rows: &mut [u32],
+    kept: &mut [u8],
+    order: &mut [u8],
+) -> Decoded
+    ensures { λ r. ⌜ Reads (reading (realOf 0) 112 option (now (octets .entry)) (lentOf (now (rows .entry)) (now (kept .entry)) (now (order .entry)))) r (now (rows .exit)) (now (kept .exit)) (now (order .exit)) ⌝ }
+{
+    decode_by_index(
+        octets,
+        &TABLE_P,
+        &INDEX_P,
+        TLVE_START,
+        option,
+        rows,
+        kept,
+        order,
+    )
+}
+
+fn decode_registration_request(
+    octets: &[u8],
+    option: bool,
+    rows: &mut [u32],
+    kept: &mut [u8],
+    order: &mut [u8],
+) -> Decoded
+    ensures { λ r. ⌜ Reads (reading (realOf 1) 112 option (now (octets .entry)) (lentOf (now (rows .entry)) (now (kept .entry)) (now (order .entry)))) r (now (rows .exit)) (now (kept .exit)) (now (order .exit)) ⌝ }
+{
+    decode_by_index(
+        octets,
+        &REGISTRATION_REQUEST,
+        &INDEX_REGISTRATION_REQUEST,
+        TLVE_START,
+        option,
+        rows,
+        kept,
+        order,
+    )
+}
+
+fn decode_registration_accept(
+    octets: &[u8],
+    option: bool,
+    rows: &mut [u32],
+    kept: &mut [u8],
+    order: &mut [u8],
+) -> Decoded
+    ensures { λ r. ⌜ Reads (reading (realOf 2) 112 option (now (octets .entry)) (lentOf (now (rows .entry)) (now (kept .entry)) (now (order .entry)))) r (now (rows .exit)) (now (kept .exit)) (now (order .exit)) ⌝ }
+{
+    decode_by_index(
+        octets,
+        &REGISTRATION_ACCEPT,
+        &INDEX_REGISTRATION_ACCEPT,
+        TLVE_START,
+        option,
+        rows,
+        kept,
+        order,
+    )
+}
+
+fn decode_registration_reject(
+    octets: &[u8],
+    option: bool,
+    rows: &mut [u32],
+    kept: &mut [u8],
+    order: &mut [u8],
+) -> Decoded
+    ensures { λ r. ⌜ Reads (reading (realOf 3) 112 option (now (octets .entry)) (lentOf (now (rows .entry)) (now (kept .entry)) (now (order .entry)))) r (now (rows .exit)) (now (kept .exit)) (now (order .exit)) ⌝ }
+{
+    decode_by_index(
+        octets,
+        &REGISTRATION_REJECT,
+        &INDEX_REGISTRATION_REJECT,
+        TLVE_START,
+        option,
+        rows,
+        kept,
+        order,
+    )
+}
+
+fn decode_service_request(
+    octets: &[u8],
+    option: bool,
+    rows: &mut [u32],
+    kept: &mut [u8],
+    order: &mut [u8],
+) -> Decoded
+    ensures { λ r. ⌜ Reads (reading (realOf 4) 112 option (now (octets .entry)) (lentOf (now (rows .entry)) (now (kept .entry)) (now (order .entry)))) r (now (rows .exit)) (now (kept .exit)) (now (order .exit)) ⌝ }
+{
+    decode_by_index(
+        octets,
+        &SERVICE_REQUEST,
+        &INDEX_SERVICE_REQUEST,
+        TLVE_START,
+        option,
+        rows,
+        kept,
+        order,
+    )
+}
+
+fn decode_pdu_session_establishment_request(
+    octets: &[u8],
+    option: bool,
+    rows: &mut [u32],
+    kept: &mut [u8],
+    order: &mut [u8],
+) -> Decoded
+    ensures { λ r. ⌜ Reads (reading (realOf 5) 112 option (now (octets .entry)) (lentOf (now (rows .entry)) (now (kept .entry)) (now (order .entry)))) r (now (rows .exit)) (now (kept .exit)) (now (order .exit)) ⌝ }
+{
+    decode_by_index(
+        octets,
+        &PDU_SESSION_ESTABLISHMENT_REQUEST,
+        &INDEX_PDU_SESSION_ESTABLISHMENT_REQUEST,
+        TLVE_START,
+        option,
+        rows,
+        kept,
+        order,
+    )
+}
+
+fn decode_pdu_session_establishment_accept(
+    octets: &[u8],
+    option: bool,
+    rows: &mut [u32],
+    kept: &mut [u8],
+    order: &mut [u8],
+) -> Decoded
+    ensures { λ r. ⌜ Reads (reading (realOf 6) 112 option (now (octets .entry)) (lentOf (now (rows .entry)) (now (kept .entry)) (now (order .entry)))) r (now (rows .exit)) (now (kept .exit)) (now (order .exit)) ⌝ }
+{
+    decode_by_index(
+        octets,
+        &PDU_SESSION_ESTABLISHMENT_ACCEPT,
+        &INDEX_PDU_SESSION_ESTABLISHMENT_ACCEPT,
+        TLVE_START,
+        option,
+        rows,
+        kept,
+        order,
+    )
+}
+
+// By table number, with that table's start number.
+pub fn decode_optional_ies_by(
+    number: u32,
+    octets: &[u8],
+    out_of_sequence: bool,
+    rows: &mut [u32],
+    kept: &mut [u8],
+    order: &mut [u8],
+) -> Decoded
+    ensures { λ r. ⌜ Reads (readingBy number «out_of_sequence» (now (octets .entry)) (lentOf (now (rows .entry)) (now (kept .entry)) (now (order .entry)))) r (now (rows .exit)) (now (kept .exit)) (now (order .exit)) ⌝ }
+{
+    match number {
+        0 => decode_p(octets, out_of_sequence, rows, kept, order),
+        1 => decode_registration_request(octets, out_of_sequence, rows, kept, order),
+        2 => decode_registration_accept(octets, out_of_sequence, rows, kept, order),
+        3 => decode_registration_reject(octets, out_of_sequence, rows, kept, order),
+        4 => decode_service_request(octets, out_of_sequence, rows, kept, order),
+        5 => decode_pdu_session_establishment_request(octets, out_of_sequence, rows, kept, order),
+        6 => decode_pdu_session_establishment_accept(octets, out_of_sequence, rows, kept, order),
+        _ => Decoded::NoTable,
+    }
+}

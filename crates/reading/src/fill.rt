@@ -1,0 +1,222 @@
+// What reading writes into the lent rows and logs, once it is known that there is room.
+use elements::element::Came;
+use elements::element::Element;
+use elements::element::NO_PLACE;
+use elements::element::State;
+use elements::element::after;
+use elements::element::came_known;
+use elements::element::came_unknown;
+use elements::element::entry_of;
+use elements::element::frame;
+use elements::element::header;
+use elements::element::iei_of;
+use kept::put_raw;
+use length::Length;
+use order::Placed;
+use order::entry_len;
+use order::put_placed;
+use rows::columns::form_of;
+use rows::columns::numbers_at;
+use rows::columns::places;
+use seen::Seen;
+use seen::seen_has;
+ghost use mathlib.Core.Path.{_≡_};
+ghost use Prim.Native.Nat.{_+_, _*_, _≤_, _<_};
+ghost use lib.ListN.{length, replicate};
+ghost use mathlib.Core.Bool.{true, false};
+ghost use mathlib.Core.List.{[], _∷_};
+ghost use Rattle.definitions.specs.Basic.{over, overAt};
+ghost use Rattle.definitions.specs.Rows.{rowsOf};
+ghost use Rattle.definitions.specs.Logs.{keptEntry, orderEntry};
+ghost use Rattle.definitions.specs.Elements.{elementsOf, parted};
+ghost use Rattle.order.specs.Order.{placedAs};
+ghost use Rattle.rows.specs.Numbers.{Whole};
+ghost use Rattle.reading.specs.Fills.{RowFits, rowEntered, keptOfFound, enteredAll, Ready, Filled, Written};
+
+// No number in the first n.
+fn clear_rows(rows: &mut [u32], n: usize)
+    requires { ⌜ n ≤ length (now rows) ⌝ }
+    ensures { λ r. ⌜ now (rows .exit) ≡ over (replicate n 0) (now (rows .entry)) ⌝ }
+{
+    let mut i = 0;
+    while i < n {
+        rows[i] = 0;
+        i += 1;
+    }
+}
+
+// Three numbers of a row from a position on.
+fn set_row(rows: &mut [u32], at: usize, start: u32, len: u32)
+    requires { ⌜ at + 3 ≤ length (now rows) ⌝ }
+    ensures { λ r. ⌜ now (rows .exit) ≡ overAt at (1 ∷ start ∷ len ∷ []) (now (rows .entry)) ⌝ }
+{
+    rows[at] = 1;
+    rows[at + 1] = start;
+    rows[at + 2] = len;
+}
+
+// The row of an accepted element: received, and where its value is.
+fn enter_row(rows: &mut [u32], table: &[u32], e: Element)
+    requires { ⌜ Whole (now table) × RowFits (rowsOf (now table)) e (now rows) ⌝ }
+    ensures { λ r. ⌜ now (rows .exit) ≡ rowEntered (rowsOf (now (table .entry))) e (now (rows .entry)) ⌝ }
+{
+    let placed = e.placed;
+    let place = e.place;
+    let start = e.start;
+    let len = e.len;
+    match placed {
+        Placed::Known(_) => {
+            let row = numbers_at(table, place);
+            let h = header(form_of(row.code, row.size));
+            set_row(rows, 3 * place, (start + h) as u32, (len - h) as u32);
+        }
+        Placed::Unknown => {}
+        Placed::Ignored(_) => {}
+    }
+}
+
+// An element that no row took, into the rest of the kept log; the octets then used.
+fn keep(octets: &[u8], e: Element, kept: &mut [u8], used: usize) -> usize
+    requires { ⌜ (e .start + e .len ≤ length (now octets)) × (1 ≤ e .len) × (e .len ≤ 65535) × (used + length (keptOfFound e (now octets)) ≤ length (now kept)) ⌝ }
+    ensures { λ r. ⌜ (r ≡ used + length (keptOfFound e (now (octets .entry)))) × (now (kept .exit) ≡ overAt used (keptOfFound e (now (octets .entry))) (now (kept .entry))) ⌝ }
+{
+    let placed = e.placed;
+    let start = e.start;
+    let end = start + e.len;
+    match placed {
+        Placed::Known(_) => used,
+        Placed::Unknown => keep_octets(&octets[start..end], kept, used),
+        Placed::Ignored(_) => keep_octets(&octets[start..end], kept, used),
+    }
+}
+
+// The octets of an element behind their count; the octets then used.
+fn keep_octets(element: &[u8], kept: &mut [u8], used: usize) -> usize
+    requires { ⌜ (1 ≤ length (now element)) × (length (now element) ≤ 65535) × (used + length (keptEntry (now element)) ≤ length (now kept)) ⌝ }
+    ensures { λ r. ⌜ (r ≡ used + length (keptEntry (now (element .entry)))) × (now (kept .exit) ≡ overAt used (keptEntry (now (element .entry))) (now (kept .entry))) ⌝ }
+{
+    used + put_raw(&mut kept[used..], element)
+}
+
+// How an element came, into the rest of the order log; the octets then used.
+fn note(placed: Placed, order: &mut [u8], used: usize) -> usize
+    requires { ⌜ used + length (orderEntry (placedAs placed)) ≤ length (now order) ⌝ }
+    ensures { λ r. ⌜ (r ≡ used + length (orderEntry (placedAs placed))) × (now (order .exit) ≡ overAt used (orderEntry (placedAs placed)) (now (order .entry))) ⌝ }
+{
+    put_placed(&mut order[used..], placed);
+    used + entry_len(placed)
+}
+
+// Every element of a part that decodes and of which the table does not say all, into rows and logs that have room.
+fn fill_elements(
+    octets: &[u8],
+    table: &[u32],
+    index: &[u8; 256],
+    tlve_start: u8,
+    option: bool,
+    rows: &mut [u32],
+    kept: &mut [u8],
+    order: &mut [u8],
+)
+    requires { ⌜ Ready (now table) (now index) «tlve_start» option false (now octets) (now rows) (now kept) (now order) ⌝ }
+    ensures { λ r. ⌜ Filled (rowsOf (now (table .entry))) false (elementsOf (parted (rowsOf (now (table .entry))) «tlve_start» option (now (octets .entry)))) (now (rows .entry)) (now (kept .entry)) (now (order .entry)) (now (rows .exit)) (now (kept .exit)) (now (order .exit)) ⌝ }
+{
+    let mut state = State {
+        at: 0,
+        seen: Seen { low: 0, high: 0 },
+        highest: 0,
+    };
+    let mut k = 0;
+    let mut o = 0;
+    loop {
+        let at = state.at;
+        if at >= octets.len() {
+            return;
+        }
+        let x = octets[at];
+        let iei = iei_of(x);
+        let place = entry_of(index, iei);
+        let left = &octets[at..];
+        let seen = state.seen;
+        let highest = state.highest;
+        let came = if place == NO_PLACE {
+            came_unknown(left, x, tlve_start)
+        } else {
+            let row = numbers_at(table, place);
+            let again = seen_has(seen, place);
+            came_known(left, row, iei, option, again, place < highest)
+        };
+        match came {
+            Came::Is(len, placed) => {
+                let e = Element {
+                    start: at,
+                    len,
+                    iei,
+                    place,
+                    placed,
+                };
+                enter_row(rows, table, e);
+                k = keep(octets, e, kept, k);
+                o = note(placed, order, o);
+                state = after(state, place, at + len);
+            }
+            Came::Cut => {
+                return;
+            }
+        }
+    }
+}
+
+// Every element of a part of which the table says all, into the rows: each has a place and is accepted, so that its form alone
+// says how long it is. The start number and the option are those by which the part was measured.
+fn fill_plain(
+    octets: &[u8],
+    table: &[u32],
+    index: &[u8; 256],
+    tlve_start: u8,
+    option: bool,
+    rows: &mut [u32],
+)
+    requires { ⌜ Ready (now table) (now index) «tlve_start» option true (now octets) (now rows) [] [] ⌝ }
+    ensures { λ r. ⌜ now (rows .exit) ≡ enteredAll (rowsOf (now (table .entry))) (elementsOf (parted (rowsOf (now (table .entry))) «tlve_start» option (now (octets .entry)))) (now (rows .entry)) ⌝ }
+{
+    let mut at = 0;
+    while at < octets.len() {
+        let place = entry_of(index, iei_of(octets[at]));
+        let row = numbers_at(table, place);
+        let form = form_of(row.code, row.size);
+        match frame(form, &octets[at..]) {
+            Length::Octets(n) => {
+                let h = header(form);
+                set_row(rows, 3 * place, (at + h) as u32, (n - h) as u32);
+                at += n;
+            }
+            Length::CutShort => {
+                return;
+            }
+        }
+    }
+}
+
+// All that reading writes: the rows of every place, and both logs.
+pub(crate) fn fill(
+    octets: &[u8],
+    table: &[u32],
+    index: &[u8; 256],
+    tlve_start: u8,
+    option: bool,
+    plain: bool,
+    rows: &mut [u32],
+    kept: &mut [u8],
+    order: &mut [u8],
+)
+    requires { ⌜ Ready (now table) (now index) «tlve_start» option plain (now octets) (now rows) (now kept) (now order) ⌝ }
+    ensures { λ r. ⌜ Written (rowsOf (now (table .entry))) plain (elementsOf (parted (rowsOf (now (table .entry))) «tlve_start» option (now (octets .entry)))) (now (rows .entry)) (now (kept .entry)) (now (order .entry)) (now (rows .exit)) (now (kept .exit)) (now (order .exit)) ⌝ }
+{
+    clear_rows(rows, 3 * places(table));
+    if plain {
+        fill_plain(octets, table, index, tlve_start, option, rows);
+        return;
+    }
+    fill_elements(octets, table, index, tlve_start, option, rows, kept, order);
+}

@@ -1,0 +1,2 @@
+-- What holds of every constant table and index.
+pub mod RealLaws

@@ -1,0 +1,2 @@
+-- The constants of this crate by table number.
+pub mod Real

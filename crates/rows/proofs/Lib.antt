@@ -1,0 +1,6 @@
+-- Laws that proofs cite.
+pub mod Marking
+pub mod Steps
+pub mod Laws
+pub mod WholeRows
+pub mod Indexed

@@ -1,0 +1,209 @@
+// The table checks of document 01: a table passes, or its first bad row. Any numbers get an answer, and the table is read once.
+use crate::columns::mandatory_code_at;
+use crate::columns::mandatory_kinds_at;
+use crate::columns::mandatory_least_at;
+use crate::columns::mandatory_rows;
+use crate::columns::mandatory_size_at;
+use crate::columns::numbers_at;
+use crate::columns::places;
+use crate::marks::NO_PLACE;
+use crate::marks::both;
+use crate::marks::enter_row;
+ghost use mathlib.Core.Path.{_≡_};
+ghost use mathlib.Core.Bool.{_&&_, _||_, not};
+ghost use mathlib.Core.Option.{none};
+ghost use Prim.Native.Nat.{_+_, _<_, suc};
+ghost use lib.ListN.{length, drop};
+ghost use lib.Dec.{eqb, leb};
+ghost use Rattle.definitions.specs.Basic.{pick, isNone};
+ghost use Rattle.definitions.specs.Rows.{rowsOf, rowAt, firstBad, index};
+ghost use Rattle.definitions.specs.Mandatory.{mandatoryRowsOf, mandatoryRowAt, goodMandatory, firstBadMandatory};
+ghost use Rattle.rows.specs.Marks.{inRange, passes, enterRow, badFrom, indexed, plainInRange, paired};
+ghost use Rattle.rows.specs.Answers.{checkedAs};
+
+// The most places, and the most mandatory rows.
+const MOST_PLACES: usize = 128;
+
+const MOST_MANDATORY: usize = 32;
+
+pub enum Checked {
+    Passes,
+    BadRow(usize),
+}
+
+// ---- optional rows
+
+// A size matters for one form only.
+fn size_fits(code: u32, size: usize) -> bool
+    ensures { λ r. ⌜ r ≡ (not (eqb code 1) || leb size 255) ⌝ }
+{
+    if code != 1 {
+        return true;
+    }
+    size <= 255
+}
+
+// The ranges of a row's numbers.
+fn in_range(table: &[u32], place: usize) -> bool
+    ensures { λ r. ⌜ r ≡ inRange (rowAt (rowsOf (now (table .entry))) place) ⌝ }
+{
+    let row = numbers_at(table, place);
+    if row.count < 1 {
+        return false;
+    }
+    if row.count > 4 {
+        return false;
+    }
+    if row.code > 3 {
+        return false;
+    }
+    if !size_fits(row.code, row.size) {
+        return false;
+    }
+    if row.least > 65_538 {
+        return false;
+    }
+    if row.kinds < 1 {
+        return false;
+    }
+    row.kinds <= 255
+}
+
+// A row, with its IEIs entered.
+fn row_passes(table: &[u32], place: usize, index: &mut [u8]) -> bool
+    ensures { λ r. ⌜ (r ≡ passes place (rowAt (rowsOf (now (table .entry))) place) (now (index .entry))) × (now (index .exit) ≡ enterRow place (rowAt (rowsOf (now (table .entry))) place) (now (index .entry))) ⌝ }
+{
+    let entered = enter_row(table, place, index);
+    both(in_range(table, place), entered)
+}
+
+// The rows one after the other, up to the first bad one; of a table that passes, all IEIs are entered.
+fn check_rows(table: &[u32], index: &mut [u8]) -> Checked
+    ensures { λ r. ⌜ (checkedAs r ≡ badFrom 0 (now (index .entry)) (rowsOf (now (table .entry)))) × (badFrom 0 (now (index .entry)) (rowsOf (now (table .entry))) ≡ none → now (index .exit) ≡ indexed 0 (now (index .entry)) (rowsOf (now (table .entry)))) ⌝ }
+{
+    let n = places(table);
+    let mut k = 0;
+    while k < n {
+        if k >= MOST_PLACES {
+            return Checked::BadRow(k);
+        }
+        if !row_passes(table, k, index) {
+            return Checked::BadRow(k);
+        }
+        k += 1;
+    }
+    Checked::Passes
+}
+
+// A table of optional elements.
+pub fn check_table(table: &[u32]) -> Checked
+    ensures { λ r. ⌜ checkedAs r ≡ firstBad (rowsOf (now (table .entry))) ⌝ }
+{
+    let mut entries = [NO_PLACE; 256];
+    check_rows(table, &mut entries)
+}
+
+// The same, and the index of a table that passes; the entries are as they were where the table fails.
+pub fn check_and_index(table: &[u32], entries: &mut [u8; 256]) -> Checked
+    ensures { λ r. ⌜ (checkedAs r ≡ firstBad (rowsOf (now (table .entry)))) × (now (entries .exit) ≡ pick (isNone (firstBad (rowsOf (now (table .entry))))) (index (rowsOf (now (table .entry)))) (now (entries .entry))) ⌝ }
+{
+    let mut found = [NO_PLACE; 256];
+    match check_rows(table, &mut found) {
+        Checked::Passes => {
+            *entries = found;
+            Checked::Passes
+        }
+        Checked::BadRow(k) => Checked::BadRow(k),
+    }
+}
+
+// ---- mandatory rows
+
+fn plain_size_fits(code: u32, size: usize) -> bool
+    ensures { λ r. ⌜ r ≡ (not (eqb code 2) || (leb 1 size && leb size 255)) ⌝ }
+{
+    if code != 2 {
+        return true;
+    }
+    if size < 1 {
+        return false;
+    }
+    size <= 255
+}
+
+// The least length of a half is 0.
+fn half_fits(code: u32, least: usize) -> bool
+    ensures { λ r. ⌜ r ≡ (not (leb code 1) || eqb least 0) ⌝ }
+{
+    if code > 1 {
+        return true;
+    }
+    least == 0
+}
+
+// The ranges of a row's numbers.
+fn plain_in_range(table: &[u32], row: usize) -> bool
+    ensures { λ r. ⌜ r ≡ plainInRange (mandatoryRowAt (mandatoryRowsOf (now (table .entry))) row) ⌝ }
+{
+    let code = mandatory_code_at(table, row);
+    if code > 4 {
+        return false;
+    }
+    if !plain_size_fits(code, mandatory_size_at(table, row)) {
+        return false;
+    }
+    let least = mandatory_least_at(table, row);
+    if least > 65_537 {
+        return false;
+    }
+    if !half_fits(code, least) {
+        return false;
+    }
+    let kinds = mandatory_kinds_at(table, row);
+    if kinds < 1 {
+        return false;
+    }
+    kinds <= 255
+}
+
+// Halves stand in pairs: right behind each low one a high one, and no high one elsewhere.
+fn is_paired(after: bool, code: u32, next: u32) -> bool
+    ensures { λ r. ⌜ r ≡ paired after code next ⌝ }
+{
+    if code == 0 {
+        return next == 1;
+    }
+    if code == 1 {
+        return after;
+    }
+    true
+}
+
+fn plain_passes(table: &[u32], row: usize, after: bool) -> bool
+    requires { ⌜ row < length (mandatoryRowsOf (now table)) ⌝ }
+    ensures { λ r. ⌜ r ≡ goodMandatory after (mandatoryRowAt (mandatoryRowsOf (now (table .entry))) row) (drop (suc row) (mandatoryRowsOf (now (table .entry)))) ⌝ }
+{
+    let code = mandatory_code_at(table, row);
+    let next = mandatory_code_at(table, row + 1);
+    both(plain_in_range(table, row), is_paired(after, code, next))
+}
+
+// A table of mandatory rows.
+pub fn check_mandatory_table(table: &[u32]) -> Checked
+    ensures { λ r. ⌜ checkedAs r ≡ firstBadMandatory (mandatoryRowsOf (now (table .entry))) ⌝ }
+{
+    let n = mandatory_rows(table);
+    let mut after = false;
+    let mut k = 0;
+    while k < n {
+        if k >= MOST_MANDATORY {
+            return Checked::BadRow(k);
+        }
+        if !plain_passes(table, k, after) {
+            return Checked::BadRow(k);
+        }
+        after = mandatory_code_at(table, k) == 0;
+        k += 1;
+    }
+    Checked::Passes
+}

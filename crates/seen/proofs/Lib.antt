@@ -1,0 +1,2 @@
+-- Laws of sets of places.
+pub mod Sets

@@ -1,0 +1,2 @@
+-- A set of places as a number.
+pub mod Seen

@@ -1,0 +1,47 @@
+-- `is_good` is the rule of a row by its source.
+-- Each way out names the source.
+use native.Mathlib.Omega.{arith}
+use mathlib.Core.Path.{sym}
+use borrow.Author.Tests.{eq-eqb, ne-eqb}
+use Rattle.values.specs.Rows.{sourcesOf, valueOf}
+use Rattle.values.proofs.Showing.{good-over, good-absent, good-received, good-set}
+use borrow.Author.Needs.{needs}
+use Rattle.values.proofs.row.is_good.Statement.{statement}
+use Rattle.values.proofs.row.is_good.Tie as tie
+
+returns : tie.Need-returns
+returns c = sym (good-over (sourcesOf (c .before .before .before .before .args .received .now) (c .before .before .before .before .args .set .now)) (valueOf (c .before .before .before .before .args .row)) (omega arith))
+
+returns-2 : tie.Need-returns-2
+returns-2 c = rw (good-absent (sourcesOf (c .before .before .before .before .before .before .before .before .before .args .received .now) (c .before .before .before .before .before .before .before .before .before .args .set .now)) (valueOf (c .before .before .before .before .before .before .before .before .before .args .row)) (omega arith), eq-eqb (c .before .before .before .before .before .before .before .before .before .args .row .start) 0 (omega arith))
+
+returns-3 : tie.Need-returns-3
+returns-3 c = rw (good-absent (sourcesOf (c .before .before .before .before .before .before .before .before .args .received .now) (c .before .before .before .before .before .before .before .before .args .set .now)) (valueOf (c .before .before .before .before .before .before .before .before .args .row)) (omega arith), ne-eqb (c .before .before .before .before .before .before .before .before .args .row .start) 0 (c .if3 .left))
+
+wide-requires : tie.Need-wide-requires
+wide-requires c κs = search needs
+
+wide-requires-2 : tie.Need-wide-requires-2
+wide-requires-2 c κs = search needs
+
+add-end : tie.Need-add-end
+add-end c = search needs
+
+returns-4 : tie.Need-returns-4
+returns-4 c = rw (c .before .before .before .wide .ensures .0, c .before .before .wide2 .ensures .0) (sym (good-received (sourcesOf (c .before .before .before .before .before .before .before .before .before .before .args .received .now) (c .before .before .before .before .before .before .before .before .before .before .args .set .now)) (valueOf (c .before .before .before .before .before .before .before .before .before .before .args .row)) (omega arith)))
+
+returns-5 : tie.Need-returns-5
+returns-5 c = rw (c .before .before .before .wide .ensures .0, c .before .before .wide2 .ensures .0) (sym (good-set (sourcesOf (c .before .before .before .before .before .before .before .before .before .before .args .received .now) (c .before .before .before .before .before .before .before .before .before .before .args .set .now)) (valueOf (c .before .before .before .before .before .before .before .before .before .before .args .row)) (omega arith)))
+
+pub is-good-spec : {M : Type 1} → statement M
+is-good-spec =
+    tie.close
+    (tie.spec
+    returns
+    returns-2
+    returns-3
+    wide-requires
+    wide-requires-2
+    add-end
+    returns-4
+    returns-5)

@@ -1,0 +1,3 @@
+-- What the answers of this crate are by the definitions.
+pub mod Rows
+pub mod Shows

@@ -1,0 +1,121 @@
+// The row of a place: source, start and length of its value, the octets that it names, and whether these fit a form.
+use octets::part;
+use rows::columns::Form;
+ghost use mathlib.Core.Path.{_≡_};
+ghost use Prim.Native.Nat.{_<_};
+ghost use lib.ListN.{getD};
+ghost use Rattle.definitions.specs.Values.{valueAt, octetsAt, goodValue, badRows, fits};
+ghost use Rattle.rows.specs.Forms.{formAs};
+ghost use Rattle.values.specs.Rows.{valueOf, sourcesOf};
+
+// The three numbers of a place: source, start and length of its value.
+pub struct ValueRow {
+    pub source: u32,
+    pub start: u32,
+    pub len: u32,
+}
+
+// A number of the rows; 0 where there is none.
+fn number(rows: &[u32], at: usize) -> u32
+    ensures { λ r. ⌜ r ≡ getD (now (rows .entry)) at 0 ⌝ }
+{
+    if at < rows.len() {
+        return rows[at];
+    }
+    0
+}
+
+// The numbers of a place's row; 0 where there are none.
+pub fn row_at(rows: &[u32], place: usize) -> ValueRow
+    ensures { λ r. ⌜ valueOf r ≡ valueAt (now (rows .entry)) place ⌝ }
+{
+    if place > rows.len() / 3 {
+        return ValueRow {
+            source: 0,
+            start: 0,
+            len: 0,
+        };
+    }
+    let at = 3 * place;
+    ValueRow {
+        source: number(rows, at),
+        start: number(rows, at + 1),
+        len: number(rows, at + 2),
+    }
+}
+
+// Whether a row is well formed: a source of 0 to 2, a value that ends within its octets, an absent one all zeros.
+pub fn is_good(row: ValueRow, received: &[u8], set: &[u8]) -> bool
+    ensures { λ r. ⌜ r ≡ goodValue (sourcesOf (now (received .entry)) (now (set .entry))) (valueOf row) ⌝ }
+{
+    if row.source > 2 {
+        return false;
+    }
+    if row.source == 0 {
+        if row.start == 0 {
+            return row.len == 0;
+        }
+        return false;
+    }
+    let end = wide(row.start) + wide(row.len);
+    if row.source == 1 {
+        return end <= received.len();
+    }
+    end <= set.len()
+}
+
+fn wide(x: u32) -> usize
+    ensures { λ r. ⌜ (r ≡ x) × (r < 4294967296) ⌝ }
+{
+    x as usize
+}
+
+// Whether a row of the first n is malformed.
+pub fn any_bad(rows: &[u32], n: usize, received: &[u8], set: &[u8]) -> bool
+    ensures { λ r. ⌜ r ≡ badRows (sourcesOf (now (received .entry)) (now (set .entry))) (now (rows .entry)) n ⌝ }
+{
+    let mut k = 0;
+    while k < n {
+        if !is_good(row_at(rows, k), received, set) {
+            return true;
+        }
+        k += 1;
+    }
+    false
+}
+
+// The octets of a value: a part of the received or of the set octets, whichever its row names; none of an absent one.
+pub fn value_octets<'a>(received: &'a [u8], set: &'a [u8], row: ValueRow) -> &'a [u8]
+    ensures { λ r. ⌜ now r ≡ octetsAt (sourcesOf (now (received .entry)) (now (set .entry))) (valueOf row) ⌝ }
+{
+    let source = row.source;
+    let start = wide(row.start);
+    let len = wide(row.len);
+    if source == 0 {
+        return part(received, 0, 0);
+    }
+    if source == 1 {
+        return part(received, start, len);
+    }
+    part(set, start, len)
+}
+
+// Whether octets fit a form: a half octet is one octet, from set octets of 0 to 15.
+pub fn does_fit(form: Form, source: u32, octets: &[u8]) -> bool
+    ensures { λ r. ⌜ r ≡ fits (formAs form) source (now (octets .entry)) ⌝ }
+{
+    match form {
+        Form::Half => {
+            if octets.len() == 1 {
+                if source == 1 {
+                    return true;
+                }
+                return octets[0] <= 15;
+            }
+            false
+        }
+        Form::Fixed(n) => octets.len() == n,
+        Form::Tlv => octets.len() <= 255,
+        Form::TlvE => octets.len() <= 65_535,
+    }
+}
