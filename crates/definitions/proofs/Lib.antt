@@ -12,3 +12,4 @@ pub mod LogLaws
 pub mod BitLaws
 pub mod Orders
 pub mod Readings
+pub mod Mandatories

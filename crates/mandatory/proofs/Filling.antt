@@ -10,24 +10,25 @@ use lib.Seq.{drop-drop}
 use Rattle.definitions.specs.Basic.{over, overAt}
 use Rattle.definitions.specs.Mandatory.{MandatoryRow, mandatoryRowAt, mandatoryForm, foundBy}
 use Rattle.definitions.proofs.Lists.{over-none, over-next, length-overAt}
+use Rattle.rows.proofs.Steps.{mandatory-drop}
 use Rattle.mandatory.specs.Founds.{foundAs}
 use Rattle.mandatory.specs.Reads.{rowsBy, rowsFrom}
 use Rattle.mandatory.specs.declared.ie.Fault.{Fault}
 use Rattle.mandatory.specs.declared.ie.Found.{Found}
 use Rattle.mandatory.proofs.Finding.{found-within}
-use Rattle.mandatory.proofs.Judging.{row-front}
 
 -- the rows from k on, written from here on, leave what all of them leave
 pub record Filling (t : List MandatoryRow) (part rows₀ : List ℕ) (k at : ℕ) (rows : List ℕ) : Type 0 where
   pub within : k ≤ length t
   pub inside : at ≤ length part
-  pub room : 3 * length t ≤ length rows
+  pub size : length rows ≡ length rows₀
+  pub room : 3 * length t ≤ length rows₀
   pub fills : overAt (3 * k) (rowsFrom at (drop k t) (drop at part)) rows ≡ over (rowsFrom 0 t part) rows₀
 
 module _ (t : List MandatoryRow) (part rows₀ : List ℕ) where
   pub filling : 3 * length t ≤ length rows₀ → Filling t part rows₀ 0 0 rows₀
   unfolding overAt
-  filling h = record { within = omega arith; inside = omega arith; room = h; fills = refl }
+  filling h = record { within = omega arith; inside = omega arith; size = refl; room = h; fills = refl }
 
   module _ (k at : ℕ) (rows : List ℕ) (i : Filling t part rows₀ k at rows) where
     pub filled-all : length t ≤ k → rows ≡ over (rowsFrom 0 t part) rows₀
@@ -40,7 +41,7 @@ module _ (t : List MandatoryRow) (part rows₀ : List ℕ) where
 
       step : overAt (3 * k) (rowsBy at found (λ took. rowsFrom (at + took) (drop (suc k) t) (drop took (drop at part)))) rows ≡ over (rowsFrom 0 t part) rows₀
       unfolding rowsFrom
-      step = rw (row-front t k h) at (i .fills)
+      step = rw (mandatory-drop t k h) at (i .fills)
 
       pub filled-missing : found ≡ Found.Missing → rows ≡ over (rowsFrom 0 t part) rows₀
       filled-missing e = sym (over-none (3 * k) rows) ∙ rw e at step
@@ -59,13 +60,14 @@ module _ (t : List MandatoryRow) (part rows₀ : List ℕ) where
         filled-on {rows′} q =
             let w = found-within (mandatoryRowAt t k) (drop at part) e in
             let s : drop took (drop at part) ≡ drop (at + took) part = drop-drop took at part in
-            let f : 3 * k + 3 ≤ length rows = omega (arith, i .room) in
+            let f : 3 * k + 3 ≤ length rows = omega (arith, i .room, i .size) in
             let b : List ℕ = rowsFrom (at + took) (drop (suc k) t) (drop (at + took) part) in
             let z : 3 * (k + 1) ≡ 3 * k + 3 = omega arith in
             let o : overAt (3 * k + 3) b (overAt (3 * k) (1 ∷ (at + m) ∷ l ∷ []) rows) ≡ overAt (3 * k) (1 ∷ (at + m) ∷ l ∷ b) rows = over-next (3 * k) (1 ∷ (at + m) ∷ l ∷ []) b rows f in
             record {
               within = omega arith;
               inside = omega (arith, w .0, length-drop at part, i .inside);
-              room = omega (arith, ap length q ∙ length-overAt (3 * k) (1 ∷ (at + m) ∷ l ∷ []) rows f, i .room);
+              size = ap length q ∙ length-overAt (3 * k) (1 ∷ (at + m) ∷ l ∷ []) rows f ∙ i .size;
+              room = i .room;
               fills = rw (z, add-one k, q) (o ∙ rw (e, s) at step);
             }

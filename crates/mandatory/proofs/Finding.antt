@@ -1,18 +1,17 @@
--- What a row finds: by its form where there is an octet, and the fault of a complete value.
--- Each law settles the tests before it.
-use Prim.Native.Nat.{ℕ, zero, suc, _+_, _/_, _%_, _≤_, _<_}
+-- What a row finds: the fault of a complete value, and that what it takes is there.
+-- By the tests, and by the form.
+use Prim.Native.Nat.{ℕ, _+_, _≤_, _<_}
 use native.Mathlib.Omega.{arith}
-use mathlib.Core.Path.{_≡_, refl, ap}
+use mathlib.Core.Path.{_≡_, refl}
 use mathlib.Core.List.{List, [], _∷_}
 use mathlib.Core.Bool.{Bool, true, false}
 use mathlib.Core.Option.{Option, none, some}
-use borrow.Author.Tests.{le-leb, lt-leb, lt-ltb, le-ltb, leb-true}
-use lib.ListN.{length, getD, take, drop}
+use borrow.Author.Tests.{lt-ltb, le-ltb, leb-true}
+use lib.ListN.{length, take, drop}
 use lib.Dec.{leb}
 use Rattle.definitions.specs.Basic.{pick, receivable}
 use Rattle.definitions.specs.Octets.{numberAt}
 use Rattle.definitions.specs.Mandatory.{MandatoryRow, MandatoryForm, lowHalf, highHalf, fixedV, lv, lv-e, mandatoryForm, Found as DefFound, missing, truncated, value, behind, counted, foundBy, faultOf}
-use Rattle.definitions.proofs.Octets.{number-one}
 use Rattle.mandatory.specs.Founds.{faultAs, foundAs}
 use Rattle.mandatory.specs.declared.ie.Fault.{Fault}
 use Rattle.mandatory.specs.declared.ie.Found.{Found}
@@ -29,45 +28,6 @@ module _ (r : MandatoryRow) (took : ℕ) (v : List ℕ) where
   pub fault-syntax : r .least ≤ took → receivable (r .kinds) v ≡ false → faultAs (faultOf r took v) ≡ Fault.Syntax
   unfolding faultOf
   fault-syntax h e = rw (le-ltb took (r .least) h, e)
-
-module _ (h n : ℕ) (s : List ℕ) where
-  pub behind-short : length s < h + n → behind h n s ≡ truncated
-  unfolding behind
-  behind-short l = rw (lt-leb (h + n) (length s) l)
-
-  pub behind-there : h + n ≤ length s → behind h n s ≡ value h n (h + n) (take n (drop h s))
-  unfolding behind
-  behind-there l = rw (le-leb (h + n) (length s) l)
-
-pub found-none : (f : MandatoryForm) (s : List ℕ) → length s ≡ 0 → foundBy f s ≡ missing
-unfolding foundBy
-found-none f [] e = refl
-found-none f (x ∷ s) e = absurd (omega arith)
-
-pub found-low : (s : List ℕ) → 0 < length s → foundBy lowHalf s ≡ value 0 1 0 ((getD s 0 0 % 16) ∷ [])
-unfolding foundBy
-found-low [] h = absurd (omega arith)
-found-low (x ∷ s) h = refl
-
-pub found-high : (s : List ℕ) → 0 < length s → foundBy highHalf s ≡ value 0 1 1 ((getD s 0 0 / 16) ∷ [])
-unfolding foundBy
-found-high [] h = absurd (omega arith)
-found-high (x ∷ s) h = refl
-
-pub found-fixed : (n : ℕ) (s : List ℕ) → 0 < length s → foundBy (fixedV n) s ≡ behind 0 n s
-unfolding foundBy
-found-fixed n [] h = absurd (omega arith)
-found-fixed n (x ∷ s) h = refl
-
-pub found-lv : (s : List ℕ) → 0 < length s → foundBy lv s ≡ behind 1 (getD s 0 0) s
-unfolding foundBy counted
-found-lv [] h = absurd (omega arith)
-found-lv (x ∷ s) h = ap (counted 1 (x ∷ s)) (number-one 0 (x ∷ s) (omega arith))
-
-pub found-lv-e : (s : List ℕ) → 0 < length s → foundBy lv-e s ≡ counted 2 s (numberAt 2 0 s)
-unfolding foundBy
-found-lv-e [] h = absurd (omega arith)
-found-lv-e (x ∷ s) h = refl
 
 -- ---- what a value takes lies within the octets
 

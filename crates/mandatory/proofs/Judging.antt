@@ -1,6 +1,6 @@
 -- A row a turn: what is judged from here on gives what the whole table does.
 -- Each law is the definition's own clause, at the rows from the loop's place on.
-use Prim.Native.Nat.{ℕ, zero, suc, _+_, _≤_, _<_}
+use Prim.Native.Nat.{ℕ, suc, _+_, _≤_, _<_}
 use native.Mathlib.Omega.{arith}
 use native.Mathlib.Numerals.{add-one}
 use mathlib.Core.Path.{_≡_, refl, ap, sym, _∙_}
@@ -10,6 +10,7 @@ use lib.ListN.{length, drop, drop-of-length-le, length-drop}
 use lib.Seq.{drop-drop}
 use Rattle.definitions.specs.Basic.{Answer}
 use Rattle.definitions.specs.Mandatory.{MandatoryRow, mandatoryRowAt, mandatoryForm, foundBy}
+use Rattle.rows.proofs.Steps.{mandatory-drop}
 use Rattle.mandatory.specs.Founds.{foundAs}
 use Rattle.mandatory.specs.Notes.{noNotes, notesAs, withFault, Tidy}
 use Rattle.mandatory.specs.Reads.{valuesOf, readAs, Judges, refusesBy, mandatedFor, judgedBy, judgedFrom}
@@ -19,12 +20,6 @@ use Rattle.mandatory.specs.declared.notes.Notes.{Notes}
 use Rattle.mandatory.specs.declared.decode.Mandated.{Mandated}
 use Rattle.mandatory.proofs.Finding.{found-within}
 use Rattle.mandatory.proofs.Noting.{Noted, tidy-none, notes-none, noted}
-
-pub row-front : (rs : List MandatoryRow) (k : ℕ) → k < length rs → drop k rs ≡ mandatoryRowAt rs k ∷ drop (suc k) rs
-unfolding mandatoryRowAt
-row-front [] k h = absurd (omega arith)
-row-front (r ∷ rs) zero h = refl
-row-front (r ∷ rs) (suc k) h = row-front rs k (omega arith)
 
 -- the rows from k on, judged from here on, give what all of them give
 pub record Judging (lenient : Bool) (t : List MandatoryRow) (part : List ℕ) (k at : ℕ) (n : Notes) : Type 0 where
@@ -52,7 +47,7 @@ module _ (lenient : Bool) (t : List MandatoryRow) (part : List ℕ) where
 
       step : judgedBy lenient k (notesAs n) found (λ took. judgedFrom lenient (suc k) (at + took) (drop (suc k) t) (drop took (drop at part))) ≡ whole
       unfolding judgedFrom
-      step = rw (row-front t k h) at (i .tells)
+      step = rw (mandatory-drop t k h) at (i .tells)
 
       pub judged-missing : found ≡ Found.Missing → Judges whole (record { answer = Mandated.Missing k; notes = n })
       unfolding readAs

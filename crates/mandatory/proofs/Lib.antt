@@ -4,3 +4,4 @@ pub mod Noting
 pub mod Rowing
 pub mod Judging
 pub mod Filling
+pub mod Checks

@@ -1,53 +1,33 @@
 -- The definition's rows are those of the loops: what is said, and what is left where none refuses.
 -- By induction on the rows, and by what the first one finds.
-use Prim.Native.Nat.{ℕ, suc, _+_}
+use Prim.Native.Nat.{ℕ, suc, _+_, _≤_}
 use native.Mathlib.Omega.{arith}
 use mathlib.Core.Path.{_≡_, refl, ap, sym, _∙_}
 use mathlib.Core.List.{List, [], _∷_, _++_, append-nil, append-assoc}
 use mathlib.Core.Bool.{Bool, true, false, not}
 use mathlib.Core.Option.{Option, none, some}
 use lib.ListN.{drop}
-use lib.Dec.{ltb}
-use Rattle.definitions.specs.Basic.{pick, receivable, Answer, answer}
+use Rattle.definitions.specs.Basic.{pick, Answer, answer}
 use Rattle.definitions.specs.Mandatory.{MandatoryRow, mandatoryForm, Found as DefFound, missing, truncated, value, foundBy, faultOf, Rowed, stopped, noted, rowed}
+use Rattle.definitions.proofs.Mandatories.{by-fault, row-missing, row-truncated, row-value}
 use Rattle.mandatory.specs.Founds.{faultAs, foundAs}
 use Rattle.mandatory.specs.Reads.{judgedBy, judgedFrom, rowsBy, rowsFrom}
 use Rattle.mandatory.specs.declared.ie.Found.{Found}
 
-abbrev saidBy : Option Answer → Answer → Answer
+abbrev pub saidBy : Option Answer → Answer → Answer
 saidBy none a = a
 saidBy (some r) a = r
 
+-- a refusal's number is not that of done
+abbrev pub Refusal : Option Answer → Type 0
+Refusal none = Unit
+Refusal (some a) = 1 ≤ a .number
+
 -- an outcome of the definition, as the loops have it: what is said, and what is left behind the rows before
 pub record Same (o : Rowed) (a : Answer) (rows left : List ℕ) : Type 0 where
+  pub number : Refusal (o .refused)
   pub said : saidBy (o .refused) (answer 0 (o .read ∷ o .notes)) ≡ a
   pub leaves : o .refused ≡ none → o .rows ≡ rows ++ left
-
-module _ (lenient : Bool) (k at : ℕ) (r : MandatoryRow) (rs : List MandatoryRow) (s rows notes : List ℕ) where
-  row-missing : foundBy (mandatoryForm r) s ≡ missing → rowed lenient k at (r ∷ rs) s rows notes ≡ stopped 6 k at rows notes
-  unfolding rowed
-  row-missing e = rw (e, rowed)
-
-  row-truncated : foundBy (mandatoryForm r) s ≡ truncated → rowed lenient k at (r ∷ rs) s rows notes ≡ stopped 7 k at rows notes
-  unfolding rowed
-  row-truncated e = rw (e, rowed)
-
-  row-value :
-      {h n took : ℕ} {v : List ℕ} → foundBy (mandatoryForm r) s ≡ value h n took v
-      → rowed lenient k at (r ∷ rs) s rows notes
-      ≡ noted lenient k (faultOf r took v) notes (rowed lenient (suc k) (at + took) rs (drop took s) (rows ++ (1 ∷ (at + h) ∷ n ∷ []))) (λ fault. stopped fault k at rows notes)
-  unfolding rowed
-  row-value e = rw (e, rowed)
-
--- a fault is 8 or 9
-by-fault : (P : Option ℕ → Type 0) (r : MandatoryRow) (took : ℕ) (v : List ℕ) → P none → P (some 8) → P (some 9) → P (faultOf r took v)
-unfolding faultOf
-by-fault P r took v a b d = go (ltb took (r .least)) (receivable (r .kinds) v)
-  where
-    go : (x y : Bool) → P (pick x (some 8) (pick y none (some 9)))
-    go true y = b
-    go false true = a
-    go false false = d
 
 -- ---- one row, where those behind it are the same
 
@@ -64,30 +44,30 @@ module _ (lenient : Bool) (k at : ℕ) (rs : List MandatoryRow) (s rows notes : 
   abbrev Here : Rowed → Found → Type 0
   Here o f = Same o (judgedBy lenient k notes f saidOn) rows (rowsBy at f leftOn)
 
-  halted : (number : ℕ) {a : Answer} {left : List ℕ} → answer number (k ∷ notes) ≡ a → Same (stopped number k at rows notes) a rows left
+  halted : (number : ℕ) {a : Answer} {left : List ℕ} → 1 ≤ number → answer number (k ∷ notes) ≡ a → Same (stopped number k at rows notes) a rows left
   unfolding stopped
-  halted number e = record { said = e; leaves = λ p. let z : _≡_ {A = ℕ} 0 1 = cc in absurd (omega arith) }
+  halted number h e = record { number = h; said = e; leaves = λ p. let z : _≡_ {A = ℕ} 0 1 = cc in absurd (omega arith) }
 
   module _ (h n took : ℕ) (i : (notes′ : List ℕ) → Same (rowedOn h n took notes′) (saidOn took notes′) (rows ++ (1 ∷ (at + h) ∷ n ∷ [])) (leftOn took)) where
     on : (notes′ : List ℕ) → Same (rowedOn h n took notes′) (saidOn took notes′) rows (1 ∷ (at + h) ∷ n ∷ leftOn took)
-    on notes′ = record { said = i notes′ .said; leaves = λ p. i notes′ .leaves p ∙ append-assoc rows (1 ∷ (at + h) ∷ n ∷ []) (leftOn took) }
+    on notes′ = record { number = i notes′ .number; said = i notes′ .said; leaves = λ p. i notes′ .leaves p ∙ append-assoc rows (1 ∷ (at + h) ∷ n ∷ []) (leftOn took) }
 
     faulty :
-        (number : ℕ) (b : Bool)
+        (number : ℕ) → 1 ≤ number → (b : Bool)
         → Same (pick b (rowedOn h n took (notes ++ (k ∷ number ∷ []))) (stopped number k at rows notes)) (pick (not b) (answer number (k ∷ notes)) (saidOn took (notes ++ (k ∷ number ∷ [])))) rows (1 ∷ (at + h) ∷ n ∷ leftOn took)
-    faulty number true = on (notes ++ (k ∷ number ∷ []))
-    faulty number false = halted number refl
+    faulty number l true = on (notes ++ (k ∷ number ∷ []))
+    faulty number l false = halted number l refl
 
     valued : (r : MandatoryRow) (v : List ℕ) → Here (noted lenient k (faultOf r took v) notes (rowedOn h n took) (λ fault. stopped fault k at rows notes)) (Found.Value h n took (faultAs (faultOf r took v)))
     unfolding noted
     valued r v =
         by-fault
         (λ o. Here (noted lenient k o notes (rowedOn h n took) (λ fault. stopped fault k at rows notes)) (Found.Value h n took (faultAs o)))
-        r took v (rw append-nil (on notes)) (faulty 8 lenient) (faulty 9 lenient)
+        r took v (rw append-nil (on notes)) (faulty 8 (omega arith) lenient) (faulty 9 (omega arith) lenient)
 
 pub same : (lenient : Bool) (k at : ℕ) (rs : List MandatoryRow) (s rows notes : List ℕ) → Same (rowed lenient k at rs s rows notes) (judgedFrom lenient k at rs s notes) rows (rowsFrom at rs s)
 unfolding rowed judgedFrom rowsFrom
-same lenient k at [] s rows notes = record { said = refl; leaves = λ p. sym (append-nil rows) }
+same lenient k at [] s rows notes = record { number = tt; said = refl; leaves = λ p. sym (append-nil rows) }
 same lenient k at (r ∷ rs) s rows notes =
     go (foundBy (mandatoryForm r) s) refl (λ h n took notes′. same lenient (suc k) (at + took) rs (drop took s) (rows ++ (1 ∷ (at + h) ∷ n ∷ [])) notes′)
   where
@@ -95,6 +75,6 @@ same lenient k at (r ∷ rs) s rows notes =
         (f : DefFound) → foundBy (mandatoryForm r) s ≡ f
         → ((h n took : ℕ) (notes′ : List ℕ) → Same (rowed lenient (suc k) (at + took) rs (drop took s) (rows ++ (1 ∷ (at + h) ∷ n ∷ [])) notes′) (judgedFrom lenient (suc k) (at + took) rs (drop took s) notes′) (rows ++ (1 ∷ (at + h) ∷ n ∷ [])) (rowsFrom (at + took) rs (drop took s)))
         → Same (rowed lenient k at (r ∷ rs) s rows notes) (judgedFrom lenient k at (r ∷ rs) s notes) rows (rowsFrom at (r ∷ rs) s)
-    go missing e i = rw (row-missing lenient k at r rs s rows notes e, e) (halted lenient k at rs s rows notes 6 refl)
-    go truncated e i = rw (row-truncated lenient k at r rs s rows notes e, e) (halted lenient k at rs s rows notes 7 refl)
+    go missing e i = rw (row-missing lenient k at r rs s rows notes e, e) (halted lenient k at rs s rows notes 6 (omega arith) refl)
+    go truncated e i = rw (row-truncated lenient k at r rs s rows notes e, e) (halted lenient k at rs s rows notes 7 (omega arith) refl)
     go (value h n took v) e i = rw (row-value lenient k at r rs s rows notes e, e) (valued lenient k at rs s rows notes h n took (i h n took) r v)

@@ -13,11 +13,12 @@ ghost use mathlib.Core.Path.{_≡_};
 ghost use mathlib.Core.Option.{none};
 ghost use mathlib.Core.List.{[], _∷_};
 ghost use Prim.Native.Nat.{_+_, _*_, _≤_, _<_};
+ghost use lib.Dec.{eqb};
 ghost use lib.ListN.{length};
 ghost use Rattle.definitions.specs.Basic.{over, overAt};
 ghost use Rattle.definitions.specs.Mandatory.{mandatoryRowsOf, firstBadMandatory, mandatoryReading};
 ghost use Rattle.mandatory.specs.Notes.{noNotes};
-ghost use Rattle.mandatory.specs.Reads.{refusesBy, mandatedFor, judgedFrom, rowsFrom, Judges, Reads};
+ghost use Rattle.mandatory.specs.Reads.{numberOf, refusesBy, mandatedFor, judgedFrom, rowsFrom, Judges, Reads};
 
 // What reading answers: the octets read, or a refusal; the row that is refused counts from 0.
 pub enum Mandated {
@@ -137,8 +138,24 @@ fn fill(part: &[u8], table: &[u32], rows: &mut [u32])
     }
 }
 
+fn is_done(answer: Mandated) -> bool
+    ensures { λ r. ⌜ r ≡ eqb (numberOf answer) 0 ⌝ }
+{
+    match answer {
+        Mandated::Done(_) => true,
+        Mandated::NoRoom => false,
+        Mandated::TooLong => false,
+        Mandated::BadTable(_) => false,
+        Mandated::NoTable => false,
+        Mandated::Missing(_) => false,
+        Mandated::Truncated(_) => false,
+        Mandated::TooShort(_) => false,
+        Mandated::Syntax(_) => false,
+    }
+}
+
 // A refusal for a reason that no row gives has no notes.
-fn unread(answer: Mandated) -> MandatoryRead
+pub(crate) fn unread(answer: Mandated) -> MandatoryRead
     ensures { λ r. ⌜ r ≡ record { answer = answer; notes = noNotes } ⌝ }
 {
     MandatoryRead {
@@ -148,7 +165,7 @@ fn unread(answer: Mandated) -> MandatoryRead
 }
 
 // By a table that passes its check.
-fn decode_checked(part: &[u8], table: &[u32], lenient: bool, rows: &mut [u32]) -> MandatoryRead
+pub(crate) fn decode_checked(part: &[u8], table: &[u32], lenient: bool, rows: &mut [u32]) -> MandatoryRead
     requires { ⌜ firstBadMandatory (mandatoryRowsOf (now table)) ≡ none ⌝ }
     ensures { λ r. ⌜ Reads (mandatoryReading (now (table .entry)) lenient (now (part .entry)) (now (rows .entry))) r (now (rows .exit)) ⌝ }
 {
@@ -160,8 +177,9 @@ fn decode_checked(part: &[u8], table: &[u32], lenient: bool, rows: &mut [u32]) -
     }
     let read = judge(part, table, lenient);
     let answer = read.answer;
-    if let Mandated::Done(_) = answer {
+    if is_done(answer) {
         fill(part, table, rows);
+        return read;
     }
     read
 }

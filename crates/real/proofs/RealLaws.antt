@@ -103,3 +103,15 @@ no-table (suc (suc (suc (suc zero)))) a b c d e f g = absurd (e refl)
 no-table (suc (suc (suc (suc (suc zero))))) a b c d e f g = absurd (f refl)
 no-table (suc (suc (suc (suc (suc (suc zero)))))) a b c d e f g = absurd (g refl)
 no-table (suc (suc (suc (suc (suc (suc (suc n))))))) a b c d e f g = refl
+
+-- nor mandatory ones
+pub mandatory-further : (n : ℕ) → (n ≡ 0 → ⊥) → (n ≡ 1 → ⊥) → (n ≡ 2 → ⊥) → (n ≡ 3 → ⊥) → (n ≡ 4 → ⊥) → (n ≡ 5 → ⊥) → (n ≡ 6 → ⊥) → mandatoryTableOf n ≡ none
+unfolding mandatoryTableOf
+mandatory-further zero a b c d e f g = absurd (a refl)
+mandatory-further (suc zero) a b c d e f g = absurd (b refl)
+mandatory-further (suc (suc zero)) a b c d e f g = absurd (c refl)
+mandatory-further (suc (suc (suc zero))) a b c d e f g = absurd (d refl)
+mandatory-further (suc (suc (suc (suc zero)))) a b c d e f g = absurd (e refl)
+mandatory-further (suc (suc (suc (suc (suc zero))))) a b c d e f g = absurd (f refl)
+mandatory-further (suc (suc (suc (suc (suc (suc zero)))))) a b c d e f g = absurd (g refl)
+mandatory-further (suc (suc (suc (suc (suc (suc (suc n))))))) a b c d e f g = refl

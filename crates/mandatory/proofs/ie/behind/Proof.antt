@@ -5,10 +5,10 @@ use mathlib.Core.Path.{_≡_, ap, sym, _∙_}
 use Prim.Native.Nat.{ℕ, _+_, _-_}
 use lib.ListN.{take, drop}
 use Rattle.definitions.specs.Mandatory.{mandatoryRowsOf, mandatoryRowAt, faultOf}
+use Rattle.definitions.proofs.Mandatories.{behind-short, behind-there}
 use Rattle.mandatory.specs.Founds.{faultAs, foundAs}
 use Rattle.mandatory.specs.declared.ie.Fault.{Fault}
 use Rattle.mandatory.specs.declared.ie.Found.{Found}
-use Rattle.mandatory.proofs.Finding.{behind-short, behind-there}
 use borrow.Author.Needs.{needs}
 use Rattle.mandatory.proofs.ie.behind.Statement.{statement}
 use Rattle.mandatory.proofs.ie.behind.Tie as tie

@@ -4,9 +4,9 @@ use Prim.Native.Nat.{ℕ}
 use native.Mathlib.Omega.{arith}
 use mathlib.Core.Path.{_≡_, ap, sym, _∙_}
 use Rattle.definitions.specs.Mandatory.{MandatoryForm, lowHalf, highHalf, fixedV, lv, lv-e, mandatoryRowsOf, mandatoryRowAt, mandatoryForm, behind, foundBy}
+use Rattle.definitions.proofs.Mandatories.{found-none, found-low, found-high, found-fixed, found-lv, found-lv-e}
 use Rattle.rows.specs.Forms.{mandatoryFormAs}
 use Rattle.mandatory.specs.Founds.{foundAs}
-use Rattle.mandatory.proofs.Finding.{found-none, found-low, found-high, found-fixed, found-lv, found-lv-e}
 use borrow.Author.Needs.{needs}
 use Rattle.mandatory.proofs.ie.decode_mandatory_ie.Statement.{statement}
 use Rattle.mandatory.proofs.ie.decode_mandatory_ie.Tie as tie

@@ -1,0 +1,3 @@
+// Mandatory rows written one after the other, by a lent table or by its number.
+pub mod encode;
+pub mod row;
