@@ -5,3 +5,4 @@ pub mod Rowing
 pub mod Judging
 pub mod Filling
 pub mod Checks
+pub mod SameAnswers

@@ -28,8 +28,18 @@ pub fn decode_mandatory_ies_by(
         2 => decode_checked(part, &REGISTRATION_ACCEPT_MANDATORY, lenient, rows),
         3 => decode_checked(part, &REGISTRATION_REJECT_MANDATORY, lenient, rows),
         4 => decode_checked(part, &SERVICE_REQUEST_MANDATORY, lenient, rows),
-        5 => decode_checked(part, &PDU_SESSION_ESTABLISHMENT_REQUEST_MANDATORY, lenient, rows),
-        6 => decode_checked(part, &PDU_SESSION_ESTABLISHMENT_ACCEPT_MANDATORY, lenient, rows),
+        5 => decode_checked(
+            part,
+            &PDU_SESSION_ESTABLISHMENT_REQUEST_MANDATORY,
+            lenient,
+            rows,
+        ),
+        6 => decode_checked(
+            part,
+            &PDU_SESSION_ESTABLISHMENT_ACCEPT_MANDATORY,
+            lenient,
+            rows,
+        ),
         _ => unread(Mandated::NoTable),
     }
 }

@@ -165,7 +165,12 @@ pub(crate) fn unread(answer: Mandated) -> MandatoryRead
 }
 
 // By a table that passes its check.
-pub(crate) fn decode_checked(part: &[u8], table: &[u32], lenient: bool, rows: &mut [u32]) -> MandatoryRead
+pub(crate) fn decode_checked(
+    part: &[u8],
+    table: &[u32],
+    lenient: bool,
+    rows: &mut [u32],
+) -> MandatoryRead
     requires { ⌜ firstBadMandatory (mandatoryRowsOf (now table)) ≡ none ⌝ }
     ensures { λ r. ⌜ Reads (mandatoryReading (now (table .entry)) lenient (now (part .entry)) (now (rows .entry))) r (now (rows .exit)) ⌝ }
 {

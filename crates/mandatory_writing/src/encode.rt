@@ -57,13 +57,7 @@ fn any_absent(rows: &[u32], n: usize) -> bool
 }
 
 // Whether the value of a row fits its form.
-fn row_fits<'a>(
-    table: &[u32],
-    rows: &[u32],
-    received: &'a [u8],
-    set: &'a [u8],
-    k: usize,
-) -> bool
+fn row_fits<'a>(table: &[u32], rows: &[u32], received: &'a [u8], set: &'a [u8], k: usize) -> bool
     ensures { λ r. ⌜ r ≡ fitsAt (mandatoryRowsOf (now (table .entry))) (sourcesOf (now (received .entry)) (now (set .entry))) (now (rows .entry)) k ⌝ }
 {
     let row = row_at(rows, k);
@@ -94,13 +88,7 @@ fn first_misfit<'a>(
 }
 
 // How many octets a row is written as.
-fn row_size<'a>(
-    table: &[u32],
-    rows: &[u32],
-    received: &'a [u8],
-    set: &'a [u8],
-    k: usize,
-) -> usize
+fn row_size<'a>(table: &[u32], rows: &[u32], received: &'a [u8], set: &'a [u8], k: usize) -> usize
     requires { ⌜ Short (now received) (now set) ⌝ }
     ensures { λ r. ⌜ (r ≡ sizeAt (mandatoryRowAt (mandatoryRowsOf (now (table .entry))) k) (sourcesOf (now (received .entry)) (now (set .entry))) (now (rows .entry)) k) × (r ≤ 65537) ⌝ }
 {
@@ -110,12 +98,7 @@ fn row_size<'a>(
 }
 
 // How many octets the rows are written as.
-fn octets_needed<'a>(
-    table: &[u32],
-    rows: &[u32],
-    received: &'a [u8],
-    set: &'a [u8],
-) -> usize
+fn octets_needed<'a>(table: &[u32], rows: &[u32], received: &'a [u8], set: &'a [u8]) -> usize
     requires { ⌜ Short (now received) (now set) × (length (mandatoryRowsOf (now table)) ≤ 32) ⌝ }
     ensures { λ r. ⌜ r ≡ sizeFrom (sourcesOf (now (received .entry)) (now (set .entry))) (now (rows .entry)) 0 (mandatoryRowsOf (now (table .entry))) ⌝ }
 {
@@ -130,13 +113,7 @@ fn octets_needed<'a>(
 }
 
 // The rows one after the other, into an output that has room for them; a low half waits for its high half.
-fn write_rows<'a>(
-    table: &[u32],
-    rows: &[u32],
-    received: &'a [u8],
-    set: &'a [u8],
-    output: &mut [u8],
-)
+fn write_rows<'a>(table: &[u32], rows: &[u32], received: &'a [u8], set: &'a [u8], output: &mut [u8])
     requires { ⌜ Ready (mandatoryRowsOf (now table)) (now received) (now set) (now rows) (now output) ⌝ }
     ensures { λ r. ⌜ now (output .exit) ≡ over (rowsWritten (sourcesOf (now (received .entry)) (now (set .entry))) (now (rows .entry)) 0 0 (mandatoryRowsOf (now (table .entry)))) (now (output .entry)) ⌝ }
 {
