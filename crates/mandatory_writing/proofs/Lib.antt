@@ -1,1 +1,5 @@
 -- Laws of this crate's definitions.
+pub mod Encoding
+pub mod Searching
+pub mod Sizing
+pub mod Laying
