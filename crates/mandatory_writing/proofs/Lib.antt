@@ -3,3 +3,5 @@ pub mod Encoding
 pub mod Searching
 pub mod Sizing
 pub mod Laying
+pub mod Checks
+pub mod SameAnswers

@@ -164,7 +164,7 @@ fn encode_octets<'a>(
 }
 
 // By a table that passes its check.
-fn encode_checked<'a>(
+pub(crate) fn encode_checked<'a>(
     table: &[u32],
     rows: &[u32],
     received: &'a [u8],

@@ -1,4 +1,9 @@
--- TODO
+-- `encode_mandatory_ies` checks the table first.
+-- The rest is `encode_checked`.
+use mathlib.Core.Path.{_≡_, ap, sym, _∙_}
+use Rattle.kept.specs.Kept.{usedOf}
+use Rattle.rows.specs.Answers.{checkedAs}
+use Rattle.mandatory_writing.proofs.Checks.{writing-table}
 use borrow.Author.Needs.{needs}
 use Rattle.mandatory_writing.proofs.encode.encode_mandatory_ies.Statement.{statement}
 use Rattle.mandatory_writing.proofs.encode.encode_mandatory_ies.Tie as tie
@@ -10,7 +15,7 @@ enum-told : tie.Need-enum-told
 enum-told c = search needs
 
 encode-checked-requires : tie.Need-encode-checked-requires
-encode-checked-requires c κs = ?
+encode-checked-requires c κs = sym (c .before .before .before .check-mandatory-table .ensures) ∙ ap checkedAs (c .before .enum-told .given .1)
 
 enum-known-k : tie.Need-enum-known-k
 enum-known-k c = search needs
@@ -22,7 +27,7 @@ returns : tie.Need-returns
 returns c = search needs
 
 returns-2 : tie.Need-returns-2
-returns-2 c = ?
+returns-2 c = writing-table (c .before .before .before .before .before .before .before .before .before .args .table .now) (c .before .before .before .before .before .before .before .before .before .args .rows .now) (c .before .before .before .before .before .before .before .before .before .args .received .now) (usedOf (c .before .before .before .before .before .before .before .before .before .args .set .now) (c .before .before .before .before .before .before .before .before .before .args .set-used)) (c .before .before .before .before .before .before .before .before .before .args .output .now) (c .before .k .given .0 .0) (sym (c .before .before .before .check-mandatory-table .ensures) ∙ ap checkedAs (c .before .k .given .1))
 
 pub encode-mandatory-ies-spec : {M : Type 1} → statement M
 encode-mandatory-ies-spec =

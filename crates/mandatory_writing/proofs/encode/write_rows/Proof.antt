@@ -53,10 +53,11 @@ row-here : (c : tie.After-put-row-arg Inv-loop μ-loop) → encodedRow (mandator
 row-here c = row-is (c .before .before .before .before .before .loop .low) (c .before .mandatory-form-at .ensures) (ap (λ (v : Value). v .source) (c .before .before .before .row-at .ensures)) (c .before .before .value-octets .ensures ∙ ap (octetsAt (sourcesOf (c .before .before .before .before .before .before .before .before .before .before .before .before .args .received .now) (c .before .before .before .before .before .before .before .before .before .before .before .before .args .set .now))) (c .before .before .before .row-at .ensures))
 
 put-row-requires : tie.Need-put-row-requires Inv-loop μ-loop
-put-row-requires c κs = 
-    (fits-is (c .before .mandatory-form-at .ensures) (ap (λ (v : Value). v .source) (c .before .before .before .row-at .ensures)) (c .before .before .value-octets .ensures ∙ ap (octetsAt (sourcesOf (c .before .before .before .before .before .before .before .before .before .before .before .before .args .received .now) (c .before .before .before .before .before .before .before .before .before .before .before .before .args .set .now))) (c .before .before .before .row-at .ensures)) ∙ fits-here (mandatoryRowsOf (c .before .before .before .before .before .before .before .before .before .before .before .before .args .table .now)) (sourcesOf (c .before .before .before .before .before .before .before .before .before .before .before .before .args .received .now) (c .before .before .before .before .before .before .before .before .before .before .before .before .args .set .now)) (c .before .before .before .before .before .before .before .before .before .before .before .before .args .rows .now) (c .before .before .before .before .before .before .before .before .before .before .before .before .pre .fit) (c .before .before .before .before .before .loop .k) (omega (arith, c .before .before .before .before .before .before .mandatory-rows .ensures))
-    , rw (row-here c) (simp (length-take, length-drop) (omega (arith, row-room (mandatoryRowsOf (c .before .before .before .before .before .before .before .before .before .before .before .before .args .table .now)) (sourcesOf (c .before .before .before .before .before .before .before .before .before .before .before .before .args .received .now) (c .before .before .before .before .before .before .before .before .before .before .before .before .args .set .now)) (c .before .before .before .before .before .before .before .before .before .before .before .before .args .rows .now) (c .before .before .before .before .before .before .before .before .before .before .before .before .args .output .now) (c .before .before .before .before .before .loop .k) (c .before .before .before .before .before .loop .at) (c .before .before .before .before .before .loop .low) (c .before .before .before .before .before .loop .output) (c .before .before .before .before .before .loop .inv) (omega (arith, c .before .before .before .before .before .before .mandatory-rows .ensures)))))
-    , c .before .before .before .before .before .loop .inv .half)
+put-row-requires c κs = (
+  fits-is (c .before .mandatory-form-at .ensures) (ap (λ (v : Value). v .source) (c .before .before .before .row-at .ensures)) (c .before .before .value-octets .ensures ∙ ap (octetsAt (sourcesOf (c .before .before .before .before .before .before .before .before .before .before .before .before .args .received .now) (c .before .before .before .before .before .before .before .before .before .before .before .before .args .set .now))) (c .before .before .before .row-at .ensures)) ∙ fits-here (mandatoryRowsOf (c .before .before .before .before .before .before .before .before .before .before .before .before .args .table .now)) (sourcesOf (c .before .before .before .before .before .before .before .before .before .before .before .before .args .received .now) (c .before .before .before .before .before .before .before .before .before .before .before .before .args .set .now)) (c .before .before .before .before .before .before .before .before .before .before .before .before .args .rows .now) (c .before .before .before .before .before .before .before .before .before .before .before .before .pre .fit) (c .before .before .before .before .before .loop .k) (omega (arith, c .before .before .before .before .before .before .mandatory-rows .ensures)),
+  rw (row-here c) (simp (length-take, length-drop) (omega (arith, row-room (mandatoryRowsOf (c .before .before .before .before .before .before .before .before .before .before .before .before .args .table .now)) (sourcesOf (c .before .before .before .before .before .before .before .before .before .before .before .before .args .received .now) (c .before .before .before .before .before .before .before .before .before .before .before .before .args .set .now)) (c .before .before .before .before .before .before .before .before .before .before .before .before .args .rows .now) (c .before .before .before .before .before .before .before .before .before .before .before .before .args .output .now) (c .before .before .before .before .before .loop .k) (c .before .before .before .before .before .loop .at) (c .before .before .before .before .before .loop .low) (c .before .before .before .before .before .loop .output) (c .before .before .before .before .before .loop .inv) (omega (arith, c .before .before .before .before .before .before .mandatory-rows .ensures))))),
+  c .before .before .before .before .before .loop .inv .half,
+)
 
 encoded-size-requires : tie.Need-encoded-size-requires Inv-loop μ-loop
 encoded-size-requires c κs = rw (c .before .before .before .before .before .value-octets .ensures ∙ ap (octetsAt (sourcesOf (c .before .before .before .before .before .before .before .before .before .before .before .before .before .before .before .args .received .now) (c .before .before .before .before .before .before .before .before .before .before .before .before .before .before .before .args .set .now))) (c .before .before .before .before .before .before .row-at .ensures)) (value-short (c .before .before .before .before .before .before .before .before .before .before .before .before .before .before .before .args .received .now) (c .before .before .before .before .before .before .before .before .before .before .before .before .before .before .before .args .set .now) (valueAt (c .before .before .before .before .before .before .before .before .before .before .before .before .before .before .before .args .rows .now) (c .before .before .before .before .before .before .before .before .loop .k)) (c .before .before .before .before .before .before .before .before .before .before .before .before .before .before .before .pre .short))
@@ -78,7 +79,7 @@ loop-less : tie.Need-loop-less Inv-loop μ-loop
 loop-less c = search needs
 
 loop-again : tie.Need-loop-again Inv-loop μ-loop
-loop-again c = 
+loop-again c =
     let q = row-room (mandatoryRowsOf (c .before .before .before .before .before .before .before .before .before .before .before .before .before .before .before .before .before .args .table .now)) (sourcesOf (c .before .before .before .before .before .before .before .before .before .before .before .before .before .before .before .before .before .args .received .now) (c .before .before .before .before .before .before .before .before .before .before .before .before .before .before .before .before .before .args .set .now)) (c .before .before .before .before .before .before .before .before .before .before .before .before .before .before .before .before .before .args .rows .now) (c .before .before .before .before .before .before .before .before .before .before .before .before .before .before .before .before .before .args .output .now) (c .before .before .before .before .before .before .before .before .before .before .loop .k) (c .before .before .before .before .before .before .before .before .before .before .loop .at) (c .before .before .before .before .before .before .before .before .before .before .loop .low) (c .before .before .before .before .before .before .before .before .before .before .loop .output) (c .before .before .before .before .before .before .before .before .before .before .loop .inv) (omega (arith, c .before .before .before .before .before .before .before .before .before .before .before .mandatory-rows .ensures)) in
     rw (size-here (c .before))
     (laid-one (mandatoryRowsOf (c .before .before .before .before .before .before .before .before .before .before .before .before .before .before .before .before .before .args .table .now)) (sourcesOf (c .before .before .before .before .before .before .before .before .before .before .before .before .before .before .before .before .before .args .received .now) (c .before .before .before .before .before .before .before .before .before .before .before .before .before .before .before .before .before .args .set .now)) (c .before .before .before .before .before .before .before .before .before .before .before .before .before .before .before .before .before .args .rows .now) (c .before .before .before .before .before .before .before .before .before .before .before .before .before .before .before .before .before .args .output .now) (c .before .before .before .before .before .before .before .before .before .before .loop .k) (c .before .before .before .before .before .before .before .before .before .before .loop .at) (c .before .before .before .before .before .before .before .before .before .before .loop .low) (c .before .before .before .before .before .before .before .before .before .before .loop .output) (c .before .before .before .before .before .before .before .before .before .before .loop .inv) (omega (arith, c .before .before .before .before .before .before .before .before .before .before .before .mandatory-rows .ensures)) (rw (c .before .before .before .before .put-row .ensures, row-here (c .before .before .before .before .before)) (lent-over (c .before .before .before .before .before .before .before .before .before .before .loop .at) (encodedRow (mandatoryForm (mandatoryRowAt (mandatoryRowsOf (c .before .before .before .before .before .before .before .before .before .before .before .before .before .before .before .before .before .args .table .now)) (c .before .before .before .before .before .before .before .before .before .before .loop .k))) (c .before .before .before .before .before .before .before .before .before .before .loop .low) ((valueAt (c .before .before .before .before .before .before .before .before .before .before .before .before .before .before .before .before .before .args .rows .now) (c .before .before .before .before .before .before .before .before .before .before .loop .k)) .source) (octetsAt (sourcesOf (c .before .before .before .before .before .before .before .before .before .before .before .before .before .before .before .before .before .args .received .now) (c .before .before .before .before .before .before .before .before .before .before .before .before .before .before .before .before .before .args .set .now)) (valueAt (c .before .before .before .before .before .before .before .before .before .before .before .before .before .before .before .before .before .args .rows .now) (c .before .before .before .before .before .before .before .before .before .before .loop .k)))) (c .before .before .before .before .before .before .before .before .before .before .loop .output) (omega arith))) (c .low-bits .ensures .0 ∙ ap (λ (s : List ℕ). lowBits (getD s 0 0)) (c .before .before .before .before .before .before .before .value-octets .ensures ∙ ap (octetsAt (sourcesOf (c .before .before .before .before .before .before .before .before .before .before .before .before .before .before .before .before .before .args .received .now) (c .before .before .before .before .before .before .before .before .before .before .before .before .before .before .before .before .before .args .set .now))) (c .before .before .before .before .before .before .before .before .row-at .ensures))) (c .low-bits .ensures .1))
