@@ -5,4 +5,6 @@ pub mod Rows
 pub mod Walk
 pub mod RoundTrip
 pub mod Condition3
+pub mod MandatoryRows
+pub mod Mandatory
 pub mod Examples
