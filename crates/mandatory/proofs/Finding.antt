@@ -1,5 +1,5 @@
--- What a row finds: the fault of a complete value, and that what it takes is there.
--- By the tests, and by the form.
+-- What a value takes lies within the octets.
+-- By the form.
 use Prim.Native.Nat.{ℕ, _+_, _≤_, _<_}
 use native.Mathlib.Omega.{arith}
 use mathlib.Core.Path.{_≡_, refl}
@@ -15,21 +15,6 @@ use Rattle.definitions.specs.Mandatory.{MandatoryRow, MandatoryForm, lowHalf, h
 use Rattle.mandatory.specs.Founds.{faultAs, foundAs}
 use Rattle.mandatory.specs.declared.ie.Fault.{Fault}
 use Rattle.mandatory.specs.declared.ie.Found.{Found}
-
-module _ (r : MandatoryRow) (took : ℕ) (v : List ℕ) where
-  pub fault-short : took < r .least → faultAs (faultOf r took v) ≡ Fault.TooShort
-  unfolding faultOf
-  fault-short h = rw (lt-ltb took (r .least) h)
-
-  pub fault-none : r .least ≤ took → receivable (r .kinds) v ≡ true → faultAs (faultOf r took v) ≡ Fault.Nothing
-  unfolding faultOf
-  fault-none h e = rw (le-ltb took (r .least) h, e)
-
-  pub fault-syntax : r .least ≤ took → receivable (r .kinds) v ≡ false → faultAs (faultOf r took v) ≡ Fault.Syntax
-  unfolding faultOf
-  fault-syntax h e = rw (le-ltb took (r .least) h, e)
-
--- ---- what a value takes lies within the octets
 
 abbrev Within : ℕ → DefFound → Type 0
 Within l missing = Unit

@@ -8,6 +8,8 @@ use rows::columns::mandatory_kinds_at;
 use rows::columns::mandatory_least_at;
 ghost use mathlib.Core.Path.{_≡_};
 ghost use mathlib.Core.List.{[], _∷_};
+ghost use mathlib.Core.Option.{none, some};
+ghost use Rattle.definitions.specs.Basic.{pick};
 ghost use Rattle.definitions.specs.Octets.{numberAt};
 ghost use Rattle.definitions.specs.Mandatory.{mandatoryRowsOf, mandatoryRowAt, mandatoryForm, behind, counted, foundBy, faultOf, value};
 ghost use Rattle.mandatory.specs.Founds.{faultAs, foundAs};
@@ -39,17 +41,26 @@ fn wide16(x: u16) -> usize
     x as usize
 }
 
+// By whether a complete value is under the least length, and whether it is receivable: the first fault that it has.
+fn first_fault(short: bool, receivable: bool) -> Fault
+    ensures { λ r. ⌜ r ≡ faultAs (pick short (some 8) (pick receivable none (some 9))) ⌝ }
+{
+    if short {
+        return Fault::TooShort;
+    }
+    if receivable {
+        return Fault::Nothing;
+    }
+    Fault::Syntax
+}
+
 // A complete value of a row that consumes so many octets, by the octets that it is judged by.
 fn fault_of(table: &[u32], row: usize, took: usize, value: &[u8]) -> Fault
     ensures { λ r. ⌜ r ≡ faultAs (faultOf (mandatoryRowAt (mandatoryRowsOf (now (table .entry))) row) took (now (value .entry))) ⌝ }
 {
-    if took < mandatory_least_at(table, row) {
-        return Fault::TooShort;
-    }
-    if receivable(mandatory_kinds_at(table, row), value) {
-        return Fault::Nothing;
-    }
-    Fault::Syntax
+    let least = mandatory_least_at(table, row);
+    let kinds = mandatory_kinds_at(table, row);
+    first_fault(took < least, receivable(kinds, value))
 }
 
 // A value of n octets behind h octets.

@@ -104,7 +104,8 @@ pub(crate) fn put_row(out: &mut [u8], form: MandatoryForm, low: u8, source: u32,
     match form {
         MandatoryForm::LowHalf => {}
         MandatoryForm::HighHalf => {
-            out[0] = high_bits(source, value) * 16 + low;
+            let high = high_bits(source, value);
+            out[0] = high * 16 + low;
         }
         MandatoryForm::Fixed(_) => put_slice(out, value),
         MandatoryForm::Lv => put_lv(out, value),
