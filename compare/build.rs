@@ -12,8 +12,14 @@ const TAKEN: [(&str, &[&str]); 3] = [
         &[
             "enum NasError",
             "struct IeName",
+            "impl IeName",
             "enum IeFault",
             "type Result",
+            "struct DecodeOptions",
+            "impl DecodeOptions",
+            "struct Reading",
+            "impl<'b> Reading<'b>",
+            "type Faults",
             "fn too_short",
             "trait Reader",
             "impl<'a> Reader<'a> for &'a [u8]",
@@ -42,12 +48,18 @@ const TAKEN: [(&str, &[&str]); 3] = [
             "const NO_IE",
             "const fn iei_index",
             "fn place_of",
+            "fn decode_mandatory_ie",
             "fn kept_so_far",
             "type DecodeKnown",
             "fn decode_optional_ies",
+            "fn encode_optional_ies",
+            "fn optional_ie_order_findings",
         ],
     ),
 ];
+
+/// The arms that are taken from the macro `nas_message`: how an element is written behind its IEI, and the half octets.
+const ARMS: [&str; 3] = ["(@encode_opt ", "(@encode_mand ", "(@decode_mand "];
 
 fn main() {
     let root = PathBuf::from(env::var("CARGO_MANIFEST_DIR").unwrap()).join("..");
@@ -59,7 +71,10 @@ fn main() {
     let out = PathBuf::from(env::var("OUT_DIR").unwrap());
     for (file, heads) in TAKEN {
         let text = source(&given, file);
-        let items: Vec<String> = heads.iter().map(|head| item(&text, head, file)).collect();
+        let mut items: Vec<String> = heads.iter().map(|head| item(&text, head, file)).collect();
+        if file == "message_macros.rs" {
+            items.push(format!("macro_rules! nas_message {{\n{}}}\n", ARMS.map(|head| arms(&text, head)).concat()));
+        }
         fs::write(out.join(file), items.join("\n")).unwrap();
     }
     if env::var("CARGO_FEATURE_LINKED").is_ok() {
@@ -110,6 +125,22 @@ fn item(text: &str, head: &str, file: &str) -> String {
         }
     }
     kept.join("\n") + "\n"
+}
+
+/// All arms of the macro that begin with `head`. An arm begins and ends in the fifth column.
+fn arms(text: &str, head: &str) -> String {
+    let lines: Vec<&str> = text.lines().collect();
+    let begins = |k: &usize| lines[*k].strip_prefix("    ").is_some_and(|line| line.starts_with(head));
+    let arm = |k: usize| lines[k..].iter().take(1 + end_of_arm(&lines[k..])).map(|line| format!("{line}\n")).collect();
+    let found: Vec<String> = (0..lines.len()).filter(begins).map(arm).collect();
+    if found.is_empty() {
+        fail(format!("message_macros.rs has no arm `{head}`: is it the edition that INDEX.md names?"));
+    }
+    found.concat()
+}
+
+fn end_of_arm(lines: &[&str]) -> usize {
+    lines.iter().position(|line| matches!(*line, "    };" | "    }};")).unwrap()
 }
 
 fn begins(line: &str, head: &str) -> bool {

@@ -1,5 +1,10 @@
 # Builds the programs of this folder; the scripts beside it source it with their arguments. Without --model it makes libnas.a
 # first and links it.
+
+# The families of calls that libnas.a has besides the pieces and reading: of linked-writing,
+# linked-mandatory and linked-findings. A family is added here when
+# include/nas.h has its calls; the cases of one that is not here are left out, and the comparison says how many.
+families=""
 if ! command -v cargo > /dev/null; then
   echo "cargo is not there: the comparison is a Rust project and needs a Rust toolchain (1.88 or later)." >&2
   exit 2
@@ -12,5 +17,5 @@ else
     exit 2
   fi
   (cd .. && rt staticlib nas)
-  cargo build --release --offline --quiet --features linked
+  cargo build --release --offline --quiet --features "linked $families"
 fi

@@ -39,7 +39,7 @@ static const struct {
 struct lent {
     uint32_t rows[3 * PLACES];
     uint8_t kept[ROOM], order[ROOM];
-    uint64_t values[4];
+    uint64_t values[5];
 };
 
 static void hex(const char *name, const uint8_t *octets, size_t len)
@@ -54,7 +54,7 @@ static void hex(const char *name, const uint8_t *octets, size_t len)
 static void show(const struct lent *a, const uint8_t *part, size_t len, size_t place)
 {
     const uint32_t *row = a->rows + 3 * place;
-    uint64_t values[4];
+    uint64_t values[5];
     uint32_t number = nas_show(table_p, 9 * PLACES, a->rows, 3 * PLACES, part, len, part, 0, 0, place, values);
     if (number != 0)
         printf("  place %zu: not shown, %u\n", place, (unsigned)number);
@@ -62,9 +62,9 @@ static void show(const struct lent *a, const uint8_t *part, size_t len, size_t p
         return;
     printf("  place %zu: source %u, start %u, length %u, ", place, (unsigned)row[0], (unsigned)row[1], (unsigned)row[2]);
     if (table_p[9 * place + 5] == 0)
-        printf("four bits: %llx\n", (unsigned long long)values[0]);
+        printf("four bits: %llx\n", (unsigned long long)values[1]);
     else
-        hex("value", part + values[1], (size_t)values[2]);
+        hex("value", part + values[2], (size_t)values[3]);
 }
 
 int main(void)
@@ -85,15 +85,15 @@ int main(void)
 
         hex(parts[i].option ? "part, option on" : "part", part, len);
         if (number == 0) {
-            printf("  0: %llu octets of the kept log, %llu of the order log\n", (unsigned long long)a.values[0],
-                   (unsigned long long)a.values[1]);
+            printf("  0: %llu octets of the kept log, %llu of the order log\n", (unsigned long long)a.values[1],
+                   (unsigned long long)a.values[2]);
             for (size_t k = 0; k < PLACES; k++)
                 show(&a, part, len, k);
-            hex("  order log", a.order, (size_t)a.values[1]);
-            hex("  kept log", a.kept, (size_t)a.values[0]);
+            hex("  order log", a.order, (size_t)a.values[2]);
+            hex("  kept log", a.kept, (size_t)a.values[1]);
         } else {
-            printf("  refused %u: %llu, %02llx, %llu\n", (unsigned)number, (unsigned long long)a.values[0],
-                   (unsigned long long)a.values[1], (unsigned long long)a.values[2]);
+            printf("  refused %u: %llu, %02llx, %llu\n", (unsigned)number, (unsigned long long)a.values[1],
+                   (unsigned long long)a.values[2], (unsigned long long)a.values[3]);
         }
         printf("\n");
     }

@@ -1,24 +1,29 @@
 /* Information elements of 5G NAS: the C interface of libnas.a.
  *
- * Each call returns a number, 0 for done and the others refusals, and puts the values that go with it into the first places of
- * values, in the order given below; the other places stay as they were. A slice is a pointer and a number of elements. A
- * pointer may be any that is not null and aligned where that number is 0. What is lent for writing overlaps nothing else that
- * is lent to the same call. A refusal changes nothing lent but values.
+ * Each call returns a number, 0 for done and the others refusals, and puts into values how many values go with it, then these
+ * values in the order given below; the places behind them stay as they were. So values[0] is 0 to 4, and the first value is
+ * values[1]. A slice is a pointer and a number of elements. A pointer may be any that is not null and aligned where that number
+ * is 0. What is lent for writing overlaps nothing else that is lent to the same call. A refusal changes nothing lent but values.
+ * No call asks anything else of its caller: any octets, numbers, tables, rows, logs and counts get an answer.
  *
- * Refusals:
+ * Refusals, with their values:
  *   1   an element is cut short
- *   2   no room: values[0] says where, 1 place rows, 2 kept log, 3 order log
- *   3   too long: a part, received or set octets, or a pushed element over 65,535 octets; a log over 131,070 octets, or so
- *       after the push; a used count above its buffer
- *   4   the table fails the check: values[0] is its first bad row
- *   5   no table has this number
- *   10  the value of a place does not fit its form: values[0] is the place
- *   11  malformed: values[0] says which, 1 order log, 2 kept log, 3 place rows, or a place not in the table
+ *   2   no room: where, 1 place rows, 2 kept log, 3 order log
+ *   3   too long, no value: a part, received or set octets, or a pushed element over 65,535 octets; a log over 131,070 octets,
+ *       or so after the push; a used count above its buffer
+ *   4   the table fails the check: its first bad row
+ *   5   no table has this number, no value
+ *   10  the value of a place does not fit its form: the place
+ *   11  malformed: which, 1 order log, 2 kept log, 3 place rows, or a place not in the table
+ * Below, each call lists its refusals in the order in which they are checked: the first that is true is the answer.
  *
  * A table of optional elements has nine numbers a row: how many IEIs (1 to 4), four IEIs, the form (0 half octet, 1 fixed,
  * 2 TLV, 3 TLV-E), the value octets of a fixed form, the least whole length, and the set of kinds (bit k for kind k).
  * A table of mandatory rows has four: the form (0 low half, 1 high half, 2 fixed, 3 LV, 4 LV-E), the octets of a fixed form,
  * the least whole length, and the set of kinds.
+ *
+ * tlve_start is the start number of the long form: an unknown element whose first octet is from there to 0x7f has two length
+ * octets. It is 0x70 for 5GS.
  */
 #ifndef NAS_H
 #define NAS_H
@@ -30,85 +35,99 @@
 extern "C" {
 #endif
 
-/* The length of an unknown element, from the octets from its first octet on; start is the start number of the long form.
+/* ---- lengths, tables, indexes */
+
+/* The length of an unknown element, from the octets from its first octet on.
  * 0: the length. 1: cut short, no value. */
-uint32_t nas_generic_ie_length(const uint8_t *octets, size_t octets_len, uint8_t start, uint64_t values[4]);
+uint32_t nas_generic_ie_length(const uint8_t *octets, size_t octets_len, uint8_t tlve_start, uint64_t values[5]);
 
-/* Checks a table of optional elements.
+/* Checks a table of optional elements: at most 128 rows, the last one whole; in each row 1 to 4 IEIs, a form of 0 to 3, of a
+ * fixed form at most 255 value octets, a least whole length of at most 65,538, a set of 1 to 255; IEIs of at most 0x7f, or, in a
+ * row of half octets, of 0x80 to 0xf0 with zero low four bits; no IEI twice in the table. IEIs beyond the count, and the size
+ * of another form than fixed, are not looked at.
  * 0: it passes, no value. 4: the first bad row. */
-uint32_t nas_check_table(const uint32_t *table, size_t table_len, uint64_t values[4]);
+uint32_t nas_check_table(const uint32_t *table, size_t table_len, uint64_t values[5]);
 
-/* Checks a table of mandatory rows.
+/* Checks a table of mandatory rows: at most 32 rows, the last one whole; in each row a form of 0 to 4, of a fixed form 1 to 255
+ * octets, a least whole length of at most 65,537, which of a half is 0, a set of 1 to 255; right behind each low half a high
+ * half, and no high half elsewhere.
  * 0: it passes, no value. 4: the first bad row. */
-uint32_t nas_check_mandatory_table(const uint32_t *table, size_t table_len, uint64_t values[4]);
+uint32_t nas_check_mandatory_table(const uint32_t *table, size_t table_len, uint64_t values[5]);
 
 /* Writes the index of a table of optional elements: for each IEI the place of the first row that lists it, or 255. The table
- * is not checked.
+ * is not checked. Of one that fails the check: a row with a count over 4 lists its four IEIs, an unfinished row those that are
+ * there; an IEI over 255 has no entry; a place from 255 on is entered as 255, as if it were none.
  * 0: done. */
 uint32_t nas_iei_index(const uint32_t *table, size_t table_len, uint8_t index[256]);
 
 /* What an index says of an IEI. An index that ends before the IEI says that it has no place.
  * 0: the place; where it has none, no value. */
-uint32_t nas_place_of(const uint8_t *index, size_t index_len, uint8_t iei, uint64_t values[4]);
+uint32_t nas_place_of(const uint8_t *index, size_t index_len, uint8_t iei, uint64_t values[5]);
+
+/* ---- the kept log and the order log, each a buffer with its used count */
 
 /* Pushes an IEI and the octets after it behind the octets used of a kept log.
- * 0: the octets then used. 3: no value. 11: 2. 2: 2. */
+ * 0: the octets then used. 3. 11: 2. 2: 2. */
 uint32_t nas_kept_push(uint8_t *log, size_t log_len, size_t used, uint8_t iei, const uint8_t *octets, size_t octets_len,
-                       uint64_t values[4]);
+                       uint64_t values[5]);
 
 /* How many elements a kept log holds.
- * 0: the count. 3: no value. 11: 2. */
-uint32_t nas_kept_count(const uint8_t *log, size_t log_len, size_t used, uint64_t values[4]);
+ * 0: the count. 3. 11: 2. */
+uint32_t nas_kept_count(const uint8_t *log, size_t log_len, size_t used, uint64_t values[5]);
 
 /* The element of a kept log at a number from 0.
- * 0: its start in the log, IEI first, and its length; past the last no value. 3: no value. 11: 2. */
-uint32_t nas_kept_get(const uint8_t *log, size_t log_len, size_t used, size_t k, uint64_t values[4]);
+ * 0: its start in the log, IEI first, and its length; past the last no value. 3. 11: 2. */
+uint32_t nas_kept_get(const uint8_t *log, size_t log_len, size_t used, size_t k, uint64_t values[5]);
 
 /* Takes every element out of a kept log; no octet changes, and nothing is checked.
  * 0: 0, the octets then used. */
-uint32_t nas_kept_clear(const uint8_t *log, size_t log_len, size_t used, uint64_t values[4]);
+uint32_t nas_kept_clear(const uint8_t *log, size_t log_len, size_t used, uint64_t values[5]);
 
 /* Pushes an entry behind the octets used of an order log: 0 with the IEI of an accepted element, or, whatever the IEI,
  * 1 unknown, 2 malformed, 3 repeated, 4 out of sequence. An entry over 4 is refused as 11 right after the check of the used
  * count.
- * 0: the octets then used. 3: no value. 11: 1. 2: 3. */
-uint32_t nas_order_push(uint8_t *log, size_t log_len, size_t used, uint8_t entry, uint8_t iei, uint64_t values[4]);
+ * 0: the octets then used. 3. 11: 1. 2: 3. */
+uint32_t nas_order_push(uint8_t *log, size_t log_len, size_t used, uint8_t entry, uint8_t iei, uint64_t values[5]);
 
 /* The entry of an order log at a number from 0.
- * 0: its octets, that is 0 and the IEI, or a number from 1 to 4; past the last no value. 3: no value. 11: 1. */
-uint32_t nas_order_get(const uint8_t *log, size_t log_len, size_t used, size_t k, uint64_t values[4]);
+ * 0: its octets, that is 0 and the IEI, or a number from 1 to 4; past the last no value. 3. 11: 1. */
+uint32_t nas_order_get(const uint8_t *log, size_t log_len, size_t used, size_t k, uint64_t values[5]);
 
-/* Reads an optional part by a table; start is the start number of the long form. option 0: an element out of sequence is set
- * aside; any other: it is taken. rows gets three numbers for each place, source (0 absent, 1 received), start and length of
- * the value in the part; kept gets each unknown or set-aside element behind its octet count in unsigned LEB128; order gets an
- * entry for each element, or nothing where all are accepted, in table order, under first IEIs.
- * 0: the octets used of the kept log, and of the order log. 4: the first bad row. 3: no value. 2: 1, 2 or 3.
- * 1: start of the element, its first octet, octets from there to the end. */
-uint32_t nas_read(const uint8_t *part, size_t part_len, const uint32_t *table, size_t table_len, uint8_t start, uint8_t option,
-                  uint32_t *rows, size_t rows_len, uint8_t *kept, size_t kept_len, uint8_t *order, size_t order_len,
-                  uint64_t values[4]);
+/* ---- an optional part */
+
+/* Reads an optional part by a table. option 0: an element out of sequence is set aside; any other: it is taken. rows gets three
+ * numbers for each place, source (0 absent, 1 received), start and length of the value in the part; kept gets each unknown or
+ * set-aside element behind its octet count in unsigned LEB128; order gets an entry for each element, or nothing where all are
+ * accepted, in table order, under first IEIs.
+ * 0: the octets used of the kept log, and of the order log. 4: the first bad row. 3. 2: 1. 1: start of the element, its first
+ * octet, octets from there to the end. 2: 2. 2: 3. */
+uint32_t nas_read(const uint8_t *part, size_t part_len, const uint32_t *table, size_t table_len, uint8_t tlve_start,
+                  uint8_t option, uint32_t *rows, size_t rows_len, uint8_t *kept, size_t kept_len, uint8_t *order,
+                  size_t order_len, uint64_t values[5]);
 
 /* The same by table number: 0 is table P of the examples; 1 registration request, 2 registration accept, 3 registration
- * reject, 4 service request, 5 PDU session establishment request, 6 PDU session establishment accept. The start number is
- * 0x70.
- * As nas_read, but 5, no value, for any other number, and never 4. */
+ * reject, 4 service request, 5 PDU session establishment request, 6 PDU session establishment accept. The start number of the
+ * long form is 0x70.
+ * 5 for any other number, checked first; never 4; else as nas_read. */
 uint32_t nas_read_by(uint32_t number, const uint8_t *part, size_t part_len, uint8_t option, uint32_t *rows, size_t rows_len,
-                     uint8_t *kept, size_t kept_len, uint8_t *order, size_t order_len, uint64_t values[4]);
+                     uint8_t *kept, size_t kept_len, uint8_t *order, size_t order_len, uint64_t values[5]);
 
 /* The element at a state, and the state behind it. A state has four numbers: position, places met from 0 to 63 and from 64 to
  * 127 (a bit each), highest place met; four zeros are the state at a part's start. Any state gets an answer.
  * 0: length, IEI, place (255 where it has none), and how it came (0 accepted, 1 unknown, 2 malformed, 3 repeated, 4 out of
  * sequence); it starts at the position that the state had. At the end no value, and the state stays. 4: the first bad row.
- * 3: no value. 1: start of the element, its first octet, octets from there to the end. On 1, 3 and 4 the state stays. */
-uint32_t nas_next(const uint8_t *part, size_t part_len, const uint32_t *table, size_t table_len, uint8_t start, uint8_t option,
-                  uint64_t state[4], uint64_t values[4]);
+ * 3. 1: start of the element, its first octet, octets from there to the end. On 1, 3 and 4 the state stays. */
+uint32_t nas_next(const uint8_t *part, size_t part_len, const uint32_t *table, size_t table_len, uint8_t tlve_start,
+                  uint8_t option, uint64_t state[4], uint64_t values[5]);
+
+/* ---- the value of a place */
 
 /* Shows the value of a place by the place rows: received are the octets that were read, and the first used octets of set those
  * that were set.
  * 0: source (1 received, 2 set), start and length of the value in its octets; of a half octet its four bits; of an absent place
- * no value. 4: the first bad row of the table. 3: no value. 2: 1. 11: 3. 10: the place. */
+ * no value. 4: the first bad row of the table. 3. 2: 1. 11: 3. 10: the place. */
 uint32_t nas_show(const uint32_t *table, size_t table_len, const uint32_t *rows, size_t rows_len, const uint8_t *received,
-                  size_t received_len, const uint8_t *set, size_t set_len, size_t used, size_t place, uint64_t values[4]);
+                  size_t received_len, const uint8_t *set, size_t set_len, size_t used, size_t place, uint64_t values[5]);
 
 #ifdef __cplusplus
 }

@@ -1,15 +1,14 @@
-//! A call with its inputs, what it leaves on a side, and how it is made smaller where two sides differ.
+//! A call with its inputs, and what it leaves on a side.
 
 use std::fmt::{self, Display, Formatter};
-use std::time::{Duration, Instant};
 
+use crate::interface::{Edited, Lent, Mandatory, Message, Side, Used, Values, Writing};
 use crate::judge::Room;
-use crate::rows::{MANDATORY_WIDTH, WIDTH};
-use crate::sides::{Lent, Side, Values};
+use crate::rows::{MANDATORY_WIDTH, PLACE, WIDTH};
 
 #[derive(Clone)]
 pub enum Call {
-    Length { octets: Vec<u8>, start: u8 },
+    Length { octets: Vec<u8>, tlve_start: u8 },
     CheckTable { table: Vec<u32> },
     CheckMandatory { table: Vec<u32> },
     Index { table: Vec<u32> },
@@ -20,17 +19,117 @@ pub enum Call {
     KeptClear { log: Vec<u8>, used: usize },
     OrderPush { log: Vec<u8>, used: usize, entry: u8, iei: u8 },
     OrderGet { log: Vec<u8>, used: usize, k: usize },
-    Read { part: Vec<u8>, table: Vec<u32>, start: u8, option: u8, room: Room },
+    Read { part: Vec<u8>, table: Vec<u32>, tlve_start: u8, option: u8, room: Room },
     ReadBy { number: u32, part: Vec<u8>, option: u8, room: Room },
+    Write { table: Vec<u32>, filled: Filled, output: usize },
+    WriteBy { number: u32, filled: Filled, output: usize },
+    Set { table: Vec<u32>, places: Places, place: usize, value: Vec<u8> },
+    Clear { table: Vec<u32>, places: Places, place: usize },
+    ReadMandatory { part: Vec<u8>, table: Vec<u32>, lenient: u8, rows: usize },
+    ReadMandatoryBy { number: u32, part: Vec<u8>, lenient: u8, rows: usize },
+    WriteMandatory { table: Vec<u32>, places: Places, output: usize },
+    WriteMandatoryBy { number: u32, places: Places, output: usize },
+    Findings { table: Vec<u32>, kept: Octets, order: Octets, findings: usize },
 }
 
-/// The number, the values with those places that were left, and all lent memory.
+/// Lent octets and how many of them are used.
+#[derive(Clone, Default)]
+pub struct Octets {
+    pub octets: Vec<u8>,
+    pub used: usize,
+}
+
+impl Octets {
+    /// All of them are used.
+    pub fn all(octets: Vec<u8>) -> Self {
+        Self { used: octets.len(), octets }
+    }
+
+    pub fn lent(&self) -> Used<'_> {
+        Used { octets: &self.octets, used: self.used }
+    }
+}
+
+/// Place rows with the octets of their values.
+#[derive(Clone, Default)]
+pub struct Places {
+    pub rows: Vec<u32>,
+    pub received: Vec<u8>,
+    pub set: Octets,
+}
+
+/// What is written.
+#[derive(Clone, Default)]
+pub struct Filled {
+    pub places: Places,
+    pub kept: Octets,
+    pub order: Octets,
+}
+
+impl Filled {
+    pub fn message(&self) -> Message<'_> {
+        Message {
+            rows: &self.places.rows,
+            received: &self.places.received,
+            set: self.places.set.lent(),
+            kept: self.kept.lent(),
+            order: self.order.lent(),
+        }
+    }
+}
+
+/// The families of calls that are counted apart.
+#[derive(Clone, Copy, PartialEq, Eq, PartialOrd, Ord)]
+pub enum Family {
+    Pieces,
+    Reading,
+    Writing,
+    Editing,
+    ReadingRows,
+    WritingRows,
+    Finding,
+}
+
+impl Family {
+    pub fn name(self) -> &'static str {
+        match self {
+            Family::Pieces => "pieces",
+            Family::Reading => "readings",
+            Family::Writing => "writings",
+            Family::Editing => "edits",
+            Family::ReadingRows => "readings of mandatory rows",
+            Family::WritingRows => "writings of mandatory rows",
+            Family::Finding => "lists of findings",
+        }
+    }
+
+    /// Whether a side has these calls.
+    pub fn on(self, side: &dyn Side) -> bool {
+        match self {
+            Family::Pieces | Family::Reading => true,
+            Family::Writing | Family::Editing => side.writing().is_some(),
+            Family::ReadingRows | Family::WritingRows => side.mandatory().is_some(),
+            Family::Finding => side.findings().is_some(),
+        }
+    }
+}
+
+/// The number, how many values there are, the values with those places that were left, and all lent memory.
 #[derive(Clone, PartialEq, Eq)]
 pub struct Outcome {
     pub number: u32,
     pub values: Values,
     pub rows: Vec<u32>,
+    pub notes: Vec<u32>,
     pub logs: [Vec<u8>; 2],
+}
+
+fn writing(side: &dyn Side) -> &dyn Writing {
+    side.writing().expect("a call is made on sides that have it")
+}
+
+fn mandatory(side: &dyn Side) -> &dyn Mandatory {
+    side.mandatory().expect("a call is made on sides that have it")
 }
 
 /// What stands in `values` before a call.
@@ -46,16 +145,25 @@ fn lent_octets(count: usize) -> Vec<u8> {
 }
 
 impl Call {
-    pub fn is_reading(&self) -> bool {
-        matches!(self, Call::Read { .. } | Call::ReadBy { .. })
+    pub fn family(&self) -> Family {
+        match self {
+            Call::Read { .. } | Call::ReadBy { .. } => Family::Reading,
+            Call::Write { .. } | Call::WriteBy { .. } => Family::Writing,
+            Call::Set { .. } | Call::Clear { .. } => Family::Editing,
+            Call::ReadMandatory { .. } | Call::ReadMandatoryBy { .. } => Family::ReadingRows,
+            Call::WriteMandatory { .. } | Call::WriteMandatoryBy { .. } => Family::WritingRows,
+            Call::Findings { .. } => Family::Finding,
+            _ => Family::Pieces,
+        }
     }
 
     pub fn on(&self, side: &dyn Side) -> Outcome {
-        let mut values = [LEFT; 4];
+        let mut values = [LEFT; 5];
         let mut rows = Vec::new();
+        let mut notes = Vec::new();
         let mut logs = [Vec::new(), Vec::new()];
         let number = match self {
-            Call::Length { octets, start } => side.generic_ie_length(octets, *start, &mut values),
+            Call::Length { octets, tlve_start } => side.generic_ie_length(octets, *tlve_start, &mut values),
             Call::CheckTable { table } => side.check_table(table, &mut values),
             Call::CheckMandatory { table } => side.check_mandatory_table(table, &mut values),
             Call::Index { table } => {
@@ -83,8 +191,8 @@ impl Call {
                 let [kept, order] = &mut logs;
                 let lent = Lent { rows: &mut rows, kept, order };
                 match self {
-                    Call::Read { part, table, start, option, .. } => {
-                        side.read(part, table, *start, *option, lent, &mut values)
+                    Call::Read { part, table, tlve_start, option, .. } => {
+                        side.read(part, table, *tlve_start, *option, lent, &mut values)
                     }
                     Call::ReadBy { number, part, option, .. } => {
                         side.read_by(*number, part, *option, lent, &mut values)
@@ -92,80 +200,62 @@ impl Call {
                     _ => unreachable!("only readings have room"),
                 }
             }
-        };
-        Outcome { number, values, rows, logs }
-    }
-
-    /// The lists that can be made shorter: how many units each has.
-    fn lengths(&self) -> Vec<usize> {
-        match self {
-            Call::Length { octets, .. } => vec![octets.len()],
-            Call::CheckTable { table } | Call::Index { table } => vec![table.len().div_ceil(WIDTH)],
-            Call::CheckMandatory { table } => vec![table.len().div_ceil(MANDATORY_WIDTH)],
-            Call::PlaceOf { .. } => vec![],
-            Call::KeptPush { log, data, .. } => vec![data.len(), log.len()],
-            Call::KeptCount { log, .. } | Call::KeptGet { log, .. } | Call::KeptClear { log, .. } => vec![log.len()],
-            Call::OrderPush { log, .. } | Call::OrderGet { log, .. } => vec![log.len()],
-            Call::Read { part, table, .. } => vec![part.len(), table.len().div_ceil(WIDTH)],
-            Call::ReadBy { part, .. } => vec![part.len()],
-        }
-    }
-
-    /// The call without `count` units of a list, from `at` on.
-    fn without(&self, list: usize, at: usize, count: usize) -> Call {
-        fn drop_units<T>(items: &mut Vec<T>, width: usize, at: usize, count: usize) {
-            let end = (width * (at + count)).min(items.len());
-            items.drain(width * at..end);
-        }
-        let mut call = self.clone();
-        match &mut call {
-            Call::Length { octets, .. } => drop_units(octets, 1, at, count),
-            Call::CheckTable { table } | Call::Index { table } => drop_units(table, WIDTH, at, count),
-            Call::CheckMandatory { table } => drop_units(table, MANDATORY_WIDTH, at, count),
-            Call::PlaceOf { .. } => {}
-            Call::KeptPush { data, .. } if list == 0 => drop_units(data, 1, at, count),
-            Call::KeptPush { log, used, .. }
-            | Call::KeptCount { log, used }
-            | Call::KeptGet { log, used, .. }
-            | Call::KeptClear { log, used }
-            | Call::OrderPush { log, used, .. }
-            | Call::OrderGet { log, used, .. } => {
-                drop_units(log, 1, at, count);
-                if at + count <= *used {
-                    *used -= count;
-                }
+            Call::Write { table, filled, output } => {
+                logs[0] = lent_octets(*output);
+                writing(side).write(table, filled.message(), &mut logs[0], &mut values)
             }
-            Call::Read { table, .. } if list == 1 => drop_units(table, WIDTH, at, count),
-            Call::Read { part, .. } | Call::ReadBy { part, .. } => drop_units(part, 1, at, count),
-        }
-        call
-    }
-
-    /// The smallest call found, in a few seconds, for which `differs` still holds: units are dropped as long as it does.
-    pub fn smallest(&self, differs: &dyn Fn(&Call) -> bool) -> Call {
-        let mut call = self.clone();
-        let end = Instant::now() + Duration::from_secs(3);
-        let mut smaller = true;
-        while smaller {
-            smaller = false;
-            for list in 0..call.lengths().len() {
-                let mut count = call.lengths()[list].div_ceil(2);
-                while count > 0 {
-                    let mut at = 0;
-                    while at + count <= call.lengths()[list] && Instant::now() < end {
-                        let without = call.without(list, at, count);
-                        if differs(&without) {
-                            call = without;
-                            smaller = true;
-                        } else {
-                            at += count;
-                        }
+            Call::WriteBy { number, filled, output } => {
+                logs[0] = lent_octets(*output);
+                writing(side).write_by(*number, filled.message(), &mut logs[0], &mut values)
+            }
+            Call::Set { table, places, place, value } => {
+                rows = places.rows.clone();
+                logs[0] = places.set.octets.clone();
+                let edited = Edited {
+                    rows: &mut rows,
+                    received: &places.received,
+                    set: &mut logs[0],
+                    used: places.set.used,
+                    place: *place,
+                };
+                writing(side).set(table, edited, value, &mut values)
+            }
+            Call::Clear { table, places, place } => {
+                rows = places.rows.clone();
+                writing(side).clear(table, &mut rows, &places.received, places.set.lent(), *place, &mut values)
+            }
+            Call::ReadMandatory { rows: room, .. } | Call::ReadMandatoryBy { rows: room, .. } => {
+                rows = lent_rows(*room);
+                let mut lent = [0xa5a5_a5a5; 64];
+                let number = match self {
+                    Call::ReadMandatory { part, table, lenient, .. } => {
+                        mandatory(side).read_mandatory(part, table, *lenient, &mut rows, &mut lent, &mut values)
                     }
-                    count /= 2;
-                }
+                    Call::ReadMandatoryBy { number, part, lenient, .. } => {
+                        mandatory(side).read_mandatory_by(*number, part, *lenient, &mut rows, &mut lent, &mut values)
+                    }
+                    _ => unreachable!("only readings of mandatory rows have notes"),
+                };
+                notes = lent.to_vec();
+                number
             }
-        }
-        call
+            Call::WriteMandatory { table, places, output } => {
+                logs[0] = lent_octets(*output);
+                let Places { rows, received, set } = places;
+                mandatory(side).write_mandatory(table, rows, received, set.lent(), &mut logs[0], &mut values)
+            }
+            Call::WriteMandatoryBy { number, places, output } => {
+                logs[0] = lent_octets(*output);
+                let Places { rows, received, set } = places;
+                mandatory(side).write_mandatory_by(*number, rows, received, set.lent(), &mut logs[0], &mut values)
+            }
+            Call::Findings { table, kept, order, findings } => {
+                notes = lent_rows(*findings);
+                let side = side.findings().expect("a call is made on sides that have it");
+                side.findings(table, kept.lent(), order.lent(), &mut notes, &mut values)
+            }
+        };
+        Outcome { number, values, rows, notes, logs }
     }
 }
 
@@ -186,7 +276,9 @@ fn listed(table: &[u32], width: usize) -> String {
 impl Display for Call {
     fn fmt(&self, f: &mut Formatter<'_>) -> fmt::Result {
         match self {
-            Call::Length { octets, start } => write!(f, "generic_ie_length {} start {start:02x}", hex(octets)),
+            Call::Length { octets, tlve_start } => {
+                write!(f, "generic_ie_length {} start {tlve_start:02x}", hex(octets))
+            }
             Call::CheckTable { table } => write!(f, "check_table {}", listed(table, WIDTH)),
             Call::CheckMandatory { table } => write!(f, "check_mandatory_table {}", listed(table, MANDATORY_WIDTH)),
             Call::Index { table } => write!(f, "iei_index {}", listed(table, WIDTH)),
@@ -201,16 +293,69 @@ impl Display for Call {
                 write!(f, "order_push {} used {used} entry {entry} iei {iei:02x}", hex(log))
             }
             Call::OrderGet { log, used, k } => write!(f, "order_get {} used {used} k {k}", hex(log)),
-            Call::Read { part, table, start, option, room } => write!(
+            Call::Read { part, table, tlve_start, option, room } => write!(
                 f,
-                "read {} start {start:02x} option {option} {room:?} table {}",
+                "read {} start {tlve_start:02x} option {option} {room:?} table {}",
                 hex(part),
                 listed(table, WIDTH)
             ),
             Call::ReadBy { number, part, option, room } => {
                 write!(f, "read_by {number} {} option {option} {room:?}", hex(part))
             }
+            Call::Write { table, filled, output } => {
+                write!(f, "write {filled} output {output} table {}", listed(table, WIDTH))
+            }
+            Call::WriteBy { number, filled, output } => write!(f, "write_by {number} {filled} output {output}"),
+            Call::Set { table, places, place, value } => {
+                write!(f, "set place {place} to {} in {places} table {}", hex(value), listed(table, WIDTH))
+            }
+            Call::Clear { table, places, place } => {
+                write!(f, "clear place {place} in {places} table {}", listed(table, WIDTH))
+            }
+            Call::ReadMandatory { part, table, lenient, rows } => write!(
+                f,
+                "read_mandatory {} lenient {lenient} rows {rows} table {}",
+                hex(part),
+                listed(table, MANDATORY_WIDTH)
+            ),
+            Call::ReadMandatoryBy { number, part, lenient, rows } => {
+                write!(f, "read_mandatory_by {number} {} lenient {lenient} rows {rows}", hex(part))
+            }
+            Call::WriteMandatory { table, places, output } => {
+                write!(f, "write_mandatory {places} output {output} table {}", listed(table, MANDATORY_WIDTH))
+            }
+            Call::WriteMandatoryBy { number, places, output } => {
+                write!(f, "write_mandatory_by {number} {places} output {output}")
+            }
+            Call::Findings { table, kept, order, findings } => {
+                write!(f, "findings kept {kept} order {order} findings {findings} table {}", listed(table, WIDTH))
+            }
         }
+    }
+}
+
+impl Display for Octets {
+    fn fmt(&self, f: &mut Formatter<'_>) -> fmt::Result {
+        write!(f, "{} used {}", hex(&self.octets), self.used)
+    }
+}
+
+impl Display for Places {
+    fn fmt(&self, f: &mut Formatter<'_>) -> fmt::Result {
+        write!(f, "rows {} received {} set {}", listed(&self.rows, PLACE), hex(&self.received), self.set)
+    }
+}
+
+impl Display for Filled {
+    fn fmt(&self, f: &mut Formatter<'_>) -> fmt::Result {
+        write!(f, "{} kept {} order {}", self.places, self.kept, self.order)
+    }
+}
+
+impl Outcome {
+    /// The values that it was told to have.
+    pub fn said(&self) -> &[u64] {
+        self.values[1..].get(..self.values[0] as usize).unwrap_or(&[])
     }
 }
 
@@ -223,6 +368,8 @@ impl Display for Outcome {
                 value => write!(f, " {value}")?,
             }
         }
-        write!(f, " ) rows {:?} logs {} {}", self.rows, hex(&self.logs[0]), hex(&self.logs[1]))
+        let last = self.notes.iter().rposition(|&note| note != 0xa5a5_a5a5).map_or(0, |last| last + 1);
+        write!(f, " ) rows {:?} notes {:?} ", self.rows, &self.notes[..last])?;
+        write!(f, "logs {} {}", hex(&self.logs[0]), hex(&self.logs[1]))
     }
 }

@@ -14,12 +14,12 @@ const PLENTY: Room = Room { rows: 3 * 40, kept: 400, order: 400 };
 impl Driver {
     /// The examples, as document 01 prints them: of the Rust, and then of both sides.
     pub fn examples(&mut self) {
-        let table = self.tables[0].clone();
+        let table = self.tables.optional[0].clone();
         for (part, option, order, kept) in examples::READ {
             let call = Call::ReadBy { number: 0, part: part.to_vec(), option: u8::from(option), room: PLENTY };
             let right = call.on(&self.right);
-            let used = (right.number, right.values[0] as usize, right.values[1] as usize);
-            let as_written = used == (0, kept.len(), order.len())
+            let as_written = right.number == 0
+                && *right.said() == [kept.len() as u64, order.len() as u64]
                 && right.logs[0][..kept.len()] == *kept
                 && right.logs[1][..order.len()] == *order;
             self.expect(as_written, &call);
@@ -27,7 +27,7 @@ impl Driver {
             self.check(Call::Read {
                 part: part.to_vec(),
                 table: table.clone(),
-                start: START,
+                tlve_start: START,
                 option: u8::from(option),
                 room: PLENTY,
             });
@@ -35,7 +35,7 @@ impl Driver {
         for (part, values) in examples::CUT {
             let call = Call::ReadBy { number: 0, part: part.to_vec(), option: 0, room: PLENTY };
             let right = call.on(&self.right);
-            self.expect(right.number == 1 && right.values[..3] == values, &call);
+            self.expect(right.number == 1 && *right.said() == values, &call);
             self.check(call);
         }
     }
@@ -72,11 +72,11 @@ impl Driver {
             &[1, 0, 9, 9],
             &[0, 2, 9, 9],
         ];
-        self.check(Call::Length { octets: vec![], start: START });
+        self.check(Call::Length { octets: vec![], tlve_start: START });
         for first in 0..=255 {
             for start in 0..=255 {
                 for tail in tails {
-                    self.check(Call::Length { octets: [&[first], tail].concat(), start });
+                    self.check(Call::Length { octets: [&[first], tail].concat(), tlve_start: start });
                 }
             }
         }
@@ -89,13 +89,13 @@ impl Driver {
                 [&[first], &(length as u16).to_be_bytes()[usize::from(length < 256 && random.once_in(2))..]].concat();
             let count = (length + random.below(5)).saturating_sub(2);
             let octets = [field, vec![random.octet(); count]].concat();
-            self.check(Call::Length { octets, start });
+            self.check(Call::Length { octets, tlve_start: start });
         }
     }
 
     /// Both table checks, on tables that pass and on damaged ones.
     pub fn checks(&mut self) {
-        for table in self.tables.clone().iter() {
+        for table in self.tables.optional.clone().iter() {
             self.check(Call::CheckTable { table: table.clone() });
         }
         for _ in 0..150_000 * self.times {
@@ -119,7 +119,7 @@ impl Driver {
     /// The index of tables that pass the check, and each place by it; places by an index of any octets.
     pub fn indexes(&mut self) {
         for k in 0..1_000 * self.times {
-            let table = match self.tables.get(k) {
+            let table = match self.tables.optional.get(k) {
                 Some(table) => table.clone(),
                 None => gen_tables::optional(&mut self.random),
             };

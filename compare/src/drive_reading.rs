@@ -12,7 +12,7 @@ impl Driver {
     fn read(&mut self, model: &Model, table: &[u32], part: Vec<u8>, start: u8, option: u8) {
         let need = gen_parts::needed(model, model.read(&part, start, option != 0).ok().as_ref());
         let room = gen_parts::room(&mut self.random, need);
-        self.check(Call::Read { part, table: table.to_vec(), start, option, room });
+        self.check(Call::Read { part, table: table.to_vec(), tlve_start: start, option, room });
     }
 
     /// The same by number.
@@ -24,7 +24,7 @@ impl Driver {
 
     /// Every part up to some octets over alphabets that meet every branch under table P.
     pub fn every_part(&mut self) {
-        let table = self.tables[0].clone();
+        let table = self.tables.optional[0].clone();
         let model = Model::new(&table);
         let all = [0, 1, 2, 5, 0x10, 0x2f, 0x31, 0x52, 0x6f, 0x70, 0x77, 0x7e, 0x90, 0xc1, 0xc3, 0xff];
         let most = [0, 1, 5, 0x10, 0x31, 0x52, 0x70, 0x77, 0x90, 0xc1];
@@ -57,13 +57,13 @@ impl Driver {
             };
             let rows = self.random.below(3 * (1 + bad.len() / WIDTH));
             let room = Room { rows, kept: self.random.below(40), order: self.random.below(40) };
-            self.check(Call::Read { part, table: bad, start, option: 0, room });
+            self.check(Call::Read { part, table: bad, tlve_start: start, option: 0, room });
         }
     }
 
     /// P and the six real tables by number, and numbers that no table has.
     pub fn numbered_tables(&mut self) {
-        let tables = self.tables.clone();
+        let tables = self.tables.optional.clone();
         let models: Vec<Model> = tables.iter().map(|table| Model::new(table)).collect();
         for _ in 0..1_000_000 * self.times {
             let number = self.random.below(7);
@@ -81,7 +81,7 @@ impl Driver {
 
     /// Long values, and parts up to the limit and over it, in room around what they need.
     pub fn long_parts(&mut self) {
-        let tables = self.tables.clone();
+        let tables = self.tables.optional.clone();
         for _ in 0..3_000 * self.times {
             let table = match self.random.below(3) {
                 0 => gen_tables::optional(&mut self.random),

@@ -3,9 +3,12 @@
 use std::collections::BTreeMap;
 use std::rc::Rc;
 
-use crate::calls::Call;
+use crate::calls::{Call, Family, Outcome};
+use crate::cores::ByRust;
+use crate::interface::Side;
 use crate::random::Random;
-use crate::sides::{ByRust, Judged, Side};
+use crate::rows::Tables;
+use crate::sides::Judged;
 
 /// How many differences are printed; the others are counted.
 const PRINTED: u64 = 5;
@@ -13,37 +16,45 @@ const PRINTED: u64 = 5;
 pub struct Driver {
     pub ours: Box<dyn Side>,
     pub right: Judged<ByRust>,
-    pub tables: Rc<Vec<Vec<u32>>>,
+    pub tables: Rc<Tables>,
     pub random: Random,
     /// How many times as many random cases as usual.
     pub times: usize,
     pub cases: u64,
-    /// How often reading gave each number; of 2, also which.
-    pub readings: BTreeMap<(u32, u64), u64>,
+    /// How often a family of calls gave each number; of 2 and 11, also which.
+    pub answers: BTreeMap<(Family, u32, u64), u64>,
+    /// How many cases of a family our side has no call for.
+    pub left_out: BTreeMap<Family, u64>,
     pub differences: u64,
 }
 
 impl Driver {
-    pub fn new(ours: Box<dyn Side>, tables: Rc<Vec<Vec<u32>>>, seed: u64, times: usize) -> Self {
+    pub fn new(ours: Box<dyn Side>, tables: Rc<Tables>, seed: u64, times: usize) -> Self {
         Self {
             ours,
-            right: Judged::new(tables.clone()),
+            right: Judged::new(&tables),
             tables,
             random: Random::new(seed),
             times,
             cases: 0,
-            readings: BTreeMap::new(),
+            answers: BTreeMap::new(),
+            left_out: BTreeMap::new(),
             differences: 0,
         }
     }
 
-    /// One case: both sides, the same call, the same lent memory.
-    pub fn check(&mut self, call: Call) {
-        self.cases += 1;
+    /// One case: both sides, the same call, the same lent memory. What is right of it.
+    pub fn check(&mut self, call: Call) -> Outcome {
+        let family = call.family();
         let right = call.on(&self.right);
-        if call.is_reading() {
-            let which = if right.number == 2 { right.values[0] } else { 0 };
-            *self.readings.entry((right.number, which)).or_default() += 1;
+        if !family.on(&*self.ours) {
+            *self.left_out.entry(family).or_default() += 1;
+            return right;
+        }
+        self.cases += 1;
+        if family != Family::Pieces {
+            let which = if matches!(right.number, 2 | 11) { right.said()[0] } else { 0 };
+            *self.answers.entry((family, right.number, which)).or_default() += 1;
         }
         if call.on(&*self.ours) != right {
             if self.differences < PRINTED {
@@ -55,6 +66,7 @@ impl Driver {
             }
             self.differences += 1;
         }
+        right
     }
 
     /// An answer of the Rust that is not as document 01 prints it, or not as recorded, is a difference too.

@@ -20,3 +20,11 @@ pub const READ: [Example; 12] = [
 
 /// Part, and the three values of refusal 1.
 pub const CUT: [(&[u8], [u64; 3]); 2] = [(&[5, 2, 0xaa], [0, 5, 3]), (&[0x7e, 0], [0, 0x7e, 2])];
+
+/// Part, the place that is set, its value, and what is written.
+pub type Edited = (&'static [u8], usize, &'static [u8], &'static [u8]);
+
+pub const EDITED: [Edited; 2] = [
+    (&[0x10, 1, 0xaa, 0x77, 0, 0], 3, &[2], &[0x10, 1, 0xaa, 0x2f, 1, 2, 0x77, 0, 0]),
+    (&[0x31, 1, 2], 3, &[1], &[0x31, 1, 1]),
+];

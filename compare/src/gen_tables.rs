@@ -66,13 +66,14 @@ pub fn mandatory(random: &mut Random) -> Vec<u32> {
     let rows = if random.once_in(6) { 28 + random.below(5) } else { random.below(8) };
     let mut table = Vec::new();
     while table.len() < MANDATORY_WIDTH * rows {
-        let set = 1 + random.below(255) as u32;
+        let set = if random.once_in(2) { 255 } else { 1 + random.below(255) as u32 };
         let unused = random.pick(&[0, 1, 255, 256, u32::MAX]);
-        let least = random.pick(&[0, 1, 2, 6, 256, 65_536, 65_537]);
+        let least = random.pick(&[0, 0, 0, 1, 1, 2, 2, 3, 3, 6, 256, 65_536, 65_537]);
         if random.once_in(3) && table.len() + 2 * MANDATORY_WIDTH <= MANDATORY_WIDTH * rows {
             table.extend([0, unused, 0, set, 1, unused, 0, set]);
         } else {
-            let (code, size) = random.pick(&[(2, 1), (2, 2), (2, 255), (3, unused), (4, unused)]);
+            let (code, size) =
+                random.pick(&[(2, 1), (2, 2), (2, 3), (2, 255), (3, unused), (3, unused), (4, unused), (4, unused)]);
             table.extend([code, size, least, set]);
         }
     }

@@ -93,7 +93,7 @@ fn header(form: Form) -> usize {
 
 /// The value rule: an empty value is receivable, another when the kind that its first octet ends in is in the set. The low
 /// three bits of a half octet are those of its whole octet.
-fn receivable(set: u32, value: &[u8]) -> bool {
+pub fn receivable(set: u32, value: &[u8]) -> bool {
     match value {
         [] => true,
         [first, ..] => set & (1 << (first % 8)) != 0,
@@ -361,7 +361,7 @@ pub enum Log {
 }
 
 impl Log {
-    fn malformed(self, log: &[u8]) -> Option<Answer> {
+    pub fn malformed(self, log: &[u8]) -> Option<Answer> {
         match self {
             Log::Kept => kept_list(log).is_none().then(|| answer(11, &[2])),
             Log::Order => order_list(log).is_none().then(|| answer(11, &[1])),

@@ -2,19 +2,39 @@
 
 pub mod calls;
 mod common;
+pub mod cores;
+mod drive_findings;
 mod drive_logs;
+mod drive_mandatory;
 mod drive_pieces;
 mod drive_reading;
+mod drive_writing;
 pub mod driver;
 pub mod examples;
 pub mod gen_logs;
+pub mod gen_mandatory;
 pub mod gen_parts;
 pub mod gen_tables;
+pub mod gen_writing;
+pub mod interface;
 pub mod judge;
+pub mod judge_findings;
+pub mod judge_mandatory;
+pub mod judge_writing;
 #[cfg(feature = "linked")]
 mod linked;
+#[cfg(feature = "linked-findings")]
+mod linked_findings;
+#[cfg(feature = "linked-mandatory")]
+mod linked_mandatory;
+#[cfg(feature = "linked-writing")]
+mod linked_writing;
 pub mod oracle;
+mod oracle_findings;
+mod oracle_mandatory;
+pub mod oracle_writing;
 pub mod random;
 pub mod replay;
 pub mod rows;
 pub mod sides;
+mod smaller;

@@ -1,9 +1,9 @@
 //! Our side: the C interface of libnas.a.
 
-use crate::sides::{Lent, Side, Values};
+use crate::interface::{Findings, Lent, Mandatory, Side, Values, Writing};
 
 unsafe extern "C" {
-    fn nas_generic_ie_length(octets: *const u8, octets_len: usize, start: u8, values: *mut Values) -> u32;
+    fn nas_generic_ie_length(octets: *const u8, octets_len: usize, tlve_start: u8, values: *mut Values) -> u32;
     fn nas_check_table(table: *const u32, table_len: usize, values: *mut Values) -> u32;
     fn nas_check_mandatory_table(table: *const u32, table_len: usize, values: *mut Values) -> u32;
     fn nas_iei_index(table: *const u32, table_len: usize, index: *mut [u8; 256]) -> u32;
@@ -27,7 +27,7 @@ unsafe extern "C" {
         part_len: usize,
         table: *const u32,
         table_len: usize,
-        start: u8,
+        tlve_start: u8,
         option: u8,
         rows: *mut u32,
         rows_len: usize,
@@ -60,8 +60,8 @@ impl Side for Linked {
         "libnas.a"
     }
 
-    fn generic_ie_length(&self, octets: &[u8], start: u8, values: &mut Values) -> u32 {
-        unsafe { nas_generic_ie_length(octets.as_ptr(), octets.len(), start, values) }
+    fn generic_ie_length(&self, octets: &[u8], tlve_start: u8, values: &mut Values) -> u32 {
+        unsafe { nas_generic_ie_length(octets.as_ptr(), octets.len(), tlve_start, values) }
     }
 
     fn check_table(&self, table: &[u32], values: &mut Values) -> u32 {
@@ -104,14 +104,14 @@ impl Side for Linked {
         unsafe { nas_order_get(log.as_ptr(), log.len(), used, k, values) }
     }
 
-    fn read(&self, part: &[u8], table: &[u32], start: u8, option: u8, lent: Lent<'_>, values: &mut Values) -> u32 {
+    fn read(&self, part: &[u8], table: &[u32], tlve_start: u8, option: u8, lent: Lent<'_>, values: &mut Values) -> u32 {
         unsafe {
             nas_read(
                 part.as_ptr(),
                 part.len(),
                 table.as_ptr(),
                 table.len(),
-                start,
+                tlve_start,
                 option,
                 lent.rows.as_mut_ptr(),
                 lent.rows.len(),
@@ -140,5 +140,26 @@ impl Side for Linked {
                 values,
             )
         }
+    }
+
+    fn writing(&self) -> Option<&dyn Writing> {
+        #[cfg(feature = "linked-writing")]
+        return Some(self);
+        #[cfg(not(feature = "linked-writing"))]
+        None
+    }
+
+    fn mandatory(&self) -> Option<&dyn Mandatory> {
+        #[cfg(feature = "linked-mandatory")]
+        return Some(self);
+        #[cfg(not(feature = "linked-mandatory"))]
+        None
+    }
+
+    fn findings(&self) -> Option<&dyn Findings> {
+        #[cfg(feature = "linked-findings")]
+        return Some(self);
+        #[cfg(not(feature = "linked-findings"))]
+        None
     }
 }

@@ -4,8 +4,9 @@ use std::process::ExitCode;
 use std::time::Instant;
 
 use compare::driver::Driver;
+use compare::interface::Side;
 use compare::rows::numbered_or_exit;
-use compare::sides::{Side, ours};
+use compare::sides::ours;
 
 const USAGE: &str = "usage: compare [--times N] [--seed N] [--model]
   --times N  N times as many random cases (1)
@@ -42,10 +43,10 @@ fn main() -> ExitCode {
         return ExitCode::from(2);
     };
     let tables = numbered_or_exit();
-    let mut driver = Driver::new(ours(tables.clone(), model), tables, seed, times);
+    let mut driver = Driver::new(ours(&tables, model), tables, seed, times);
     println!("{} against {}, seed {seed}, times {times}", driver.ours.name(), driver.right.name());
     let begun = Instant::now();
-    let sections: [(&str, Section); 12] = [
+    let sections: [(&str, Section); 23] = [
         ("examples of document 01", Driver::examples),
         ("recorded answers", Driver::recorded),
         ("unknown length", Driver::lengths),
@@ -58,6 +59,17 @@ fn main() -> ExitCode {
         ("random tables", Driver::random_tables),
         ("numbered tables", Driver::numbered_tables),
         ("long parts", Driver::long_parts),
+        ("edits of document 01", Driver::edit_examples),
+        ("writing, every short order log", Driver::every_order),
+        ("writing, random tables", Driver::writing_random_tables),
+        ("writing, numbered tables", Driver::writing_numbered_tables),
+        ("writing, limits", Driver::long_writings),
+        ("mandatory rows, random tables", Driver::mandatory_random_tables),
+        ("mandatory rows, numbered tables", Driver::mandatory_numbered_tables),
+        ("mandatory rows, limits", Driver::long_mandatory),
+        ("findings, every short order log", Driver::findings_every_order),
+        ("findings, random logs", Driver::findings_random),
+        ("findings, long logs", Driver::findings_long),
     ];
     for (name, section) in sections {
         let before = (driver.cases, driver.differences);
@@ -65,12 +77,19 @@ fn main() -> ExitCode {
         let (cases, differences) = (driver.cases - before.0, driver.differences - before.1);
         println!("{name}: {cases} cases, {differences} differences, {:.1} s", begun.elapsed().as_secs_f32());
     }
-    println!("of them {} readings:", driver.readings.values().sum::<u64>());
-    for ((number, which), count) in &driver.readings {
+    let mut last = None;
+    for (&(family, number, which), count) in &driver.answers {
+        if last.replace(family) != Some(family) {
+            let all: u64 = driver.answers.iter().filter(|(key, _)| key.0 == family).map(|(_, count)| count).sum();
+            println!("of them {all} {}:", family.name());
+        }
         match number {
-            2 => println!("  {number} ({which}): {count}"),
+            2 | 11 => println!("  {number} ({which}): {count}"),
             _ => println!("  {number}: {count}"),
         }
+    }
+    for (family, count) in &driver.left_out {
+        println!("left out, as libnas.a is linked without them: {count} {}", family.name());
     }
     println!("{} cases, {} differences", driver.cases, driver.differences);
     ExitCode::from(u8::from(driver.differences > 0))

@@ -31,6 +31,14 @@ impl Table {
     pub fn places(&self) -> usize {
         self.rows.len()
     }
+
+    pub(crate) fn ieis(&self) -> IeiTable {
+        self.ieis
+    }
+
+    pub(crate) fn rows(&self) -> &[Row] {
+        &self.rows
+    }
 }
 
 /// The two logs of a reading, as the Rust has them.

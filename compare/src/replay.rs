@@ -18,8 +18,9 @@ impl Recorded {
     pub fn agrees(&self, outcome: &Outcome) -> bool {
         let values = &self.values;
         let said = outcome.number == self.number
-            && outcome.values[..values.len()] == values[..]
-            && outcome.values[values.len()..].iter().all(|&value| value == LEFT);
+            && outcome.values[0] == values.len() as u64
+            && outcome.said() == values
+            && outcome.values[1 + values.len()..].iter().all(|&value| value == LEFT);
         let places = self.present.iter().all(|(place, row)| outcome.rows[PLACE * place..][..PLACE] == *row);
         let ones = outcome.rows.iter().step_by(PLACE).filter(|&&source| source == 1).count();
         let logs = self.logs.iter().zip(&outcome.logs).all(|(used, lent)| lent.starts_with(used));
@@ -53,14 +54,14 @@ impl List<'_> {
     }
 
     fn case(&mut self) -> Option<Recorded> {
-        let [table_number, start, option] = [self.number(1)?, self.number(1)?, self.number(1)?];
-        let (start, option) = (start as u8, option as u8);
+        let [table_number, tlve_start, option] = [self.number(1)?, self.number(1)?, self.number(1)?];
+        let (tlve_start, option) = (tlve_start as u8, option as u8);
         let numbers = self.number(2)?;
         let table = (0..numbers).map(|_| self.number(4).map(|number| number as u32)).collect::<Option<Vec<_>>>()?;
         let room = Room { rows: self.number(2)?, kept: self.number(4)?, order: self.number(4)? };
         let part = self.string()?;
         let call = match table_number {
-            255 => Call::Read { part, table, start, option, room },
+            255 => Call::Read { part, table, tlve_start, option, room },
             number => Call::ReadBy { number: number as u32, part, option, room },
         };
         let number = self.number(1)? as u32;

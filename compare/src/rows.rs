@@ -1,5 +1,5 @@
-//! Tables as they are lent: nine numbers a row, namely how many IEIs, four IEIs, the code of the form, the size of a fixed
-//! form, the least whole length and the set. Table P and the six real tables by their numbers.
+//! Tables as they are lent. Optional: nine numbers a row, namely how many IEIs, four IEIs, the code of the form, the size of a
+//! fixed form, the least whole length and the set. Mandatory: the last four. Table P and the six real tables by their numbers.
 
 use std::path::PathBuf;
 use std::process::exit;
@@ -49,6 +49,40 @@ pub fn rows_of(table: &[u32]) -> Vec<Row> {
         .collect()
 }
 
+#[derive(Debug, Clone, Copy, PartialEq, Eq)]
+pub enum MandatoryForm {
+    LowHalf,
+    HighHalf,
+    Fixed(usize),
+    Lv,
+    LvE,
+}
+
+/// A row of a mandatory table that passes the check.
+#[derive(Debug, Clone, Copy)]
+pub struct MandatoryRow {
+    pub form: MandatoryForm,
+    pub least: usize,
+    pub set: u32,
+}
+
+/// The rows of a mandatory table that passes the check.
+pub fn mandatory_rows_of(table: &[u32]) -> Vec<MandatoryRow> {
+    let rows = table.chunks_exact(MANDATORY_WIDTH);
+    rows.map(|row| MandatoryRow {
+        form: match row[0] {
+            0 => MandatoryForm::LowHalf,
+            1 => MandatoryForm::HighHalf,
+            2 => MandatoryForm::Fixed(row[1] as usize),
+            3 => MandatoryForm::Lv,
+            _ => MandatoryForm::LvE,
+        },
+        least: row[2] as usize,
+        set: row[3],
+    })
+    .collect()
+}
+
 /// The numbers of a row with these IEIs.
 pub fn numbers(ieis: &[u32], code: u32, size: u32, least: u32, set: u32) -> [u32; WIDTH] {
     let iei = |k: usize| ieis.get(k).copied().unwrap_or(0);
@@ -67,8 +101,14 @@ fn table_p() -> Vec<u32> {
     .concat()
 }
 
-/// The optional tables by number: 0 is P, 1 to 6 are the real ones, read from the list of the edition 16.8.0.
-fn numbered() -> Result<Vec<Vec<u32>>, String> {
+/// The tables by number: 0 is P, which has no mandatory rows; 1 to 6 are the real ones.
+pub struct Tables {
+    pub optional: Vec<Vec<u32>>,
+    pub mandatory: Vec<Vec<u32>>,
+}
+
+/// The tables, the real ones read from the list of the edition 16.8.0.
+fn numbered() -> Result<Tables, String> {
     let folder = match env::var("NAS_TABLES") {
         Ok(path) => PathBuf::from(path),
         Err(_) => PathBuf::from(env!("CARGO_MANIFEST_DIR")).join("../../shared/tables"),
@@ -81,21 +121,23 @@ fn numbered() -> Result<Vec<Vec<u32>>, String> {
             path.display()
         )
     })?;
-    let mut tables = vec![Vec::new(); 7];
-    tables[0] = table_p();
+    let mut tables = Tables { optional: vec![Vec::new(); 7], mandatory: vec![Vec::new(); 7] };
+    tables.optional[0] = table_p();
     for line in text.lines().skip(1) {
         let column: Vec<&str> = line.split('\t').collect();
-        if column[1] == "O" {
-            let message: usize = column[0].parse().map_err(|_| format!("no message number: {line}"))?;
-            let row = optional(&column).ok_or_else(|| format!("no row of an optional element: {line}"))?;
-            tables.get_mut(message).ok_or_else(|| format!("no message 1 to 6: {line}"))?.extend(row);
-        }
+        let (rows, row) = match column[1] {
+            "O" => (&mut tables.optional, optional(&column).map(|row| row.to_vec())),
+            _ => (&mut tables.mandatory, mandatory(&column).map(|row| row.to_vec())),
+        };
+        let message: usize = column[0].parse().map_err(|_| format!("no message number: {line}"))?;
+        let row = row.ok_or_else(|| format!("no row of a table: {line}"))?;
+        rows.get_mut(message).ok_or_else(|| format!("no message 1 to 6: {line}"))?.extend(row);
     }
     Ok(tables)
 }
 
 /// The same for a program, shared; where they cannot be read the program ends with the reason.
-pub fn numbered_or_exit() -> Rc<Vec<Vec<u32>>> {
+pub fn numbered_or_exit() -> Rc<Tables> {
     match numbered() {
         Ok(tables) => Rc::new(tables),
         Err(message) => {
@@ -115,4 +157,16 @@ fn optional(column: &[&str]) -> Option<[u32; WIDTH]> {
         fixed => (1, fixed.strip_prefix("fixed-")?.parse().ok()?),
     };
     Some(numbers(&[iei], code, size, column.get(6)?.parse().ok()?, column.get(8)?.parse().ok()?))
+}
+
+/// The numbers of a mandatory row of the list.
+fn mandatory(column: &[&str]) -> Option<[u32; MANDATORY_WIDTH]> {
+    let (code, size) = match *column.get(5)? {
+        "low-half" => (0, 0),
+        "high-half" => (1, 0),
+        "lv" => (3, 0),
+        "lv-e" => (4, 0),
+        fixed => (2, fixed.strip_prefix("fixed-")?.parse().ok()?),
+    };
+    Some([code, size, column.get(6)?.parse().ok()?, column.get(8)?.parse().ok()?])
 }

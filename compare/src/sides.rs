@@ -1,173 +1,64 @@
-//! The two sides of a comparison behind one trait, which has the shape of the C interface: each call returns document 01's
-//! number and puts its values into `values`, whose other places it leaves as they were.
+//! The two sides of a comparison: document 01's checks with a core behind them, and libnas.a.
 
 use std::cell::RefCell;
 use std::rc::Rc;
 
-use crate::judge::{self, Answer, Cut, Log, Model, Reading, Room, answer};
-use crate::oracle;
-use crate::rows::START;
+use crate::cores::{ByModel, Core};
+use crate::interface::{Edited, Findings, Lent, Mandatory, Message, Notes, Side, Used, Values, Writing};
+use crate::judge::{self, Answer, Log, Model, Room, answer};
+use crate::judge_findings;
+use crate::judge_mandatory;
+use crate::judge_writing::{self, Edit};
+use crate::rows::{PLACE, START, Tables};
 
-pub type Values = [u64; 4];
-
-/// Memory lent to reading.
-pub struct Lent<'a> {
-    pub rows: &'a mut [u32],
-    pub kept: &'a mut [u8],
-    pub order: &'a mut [u8],
+/// The numbers of a table that passes the check, what a core makes of them, and what the judge does.
+struct Made<C: Core> {
+    numbers: Vec<u32>,
+    table: C::Table,
+    model: Rc<Model>,
 }
 
-pub trait Side {
-    fn name(&self) -> &'static str;
-    fn generic_ie_length(&self, octets: &[u8], start: u8, values: &mut Values) -> u32;
-    fn check_table(&self, table: &[u32], values: &mut Values) -> u32;
-    fn check_mandatory_table(&self, table: &[u32], values: &mut Values) -> u32;
-    fn iei_index(&self, table: &[u32], index: &mut [u8; 256]) -> u32;
-    fn place_of(&self, index: &[u8; 256], iei: u8, values: &mut Values) -> u32;
-    fn kept_push(&self, log: &mut [u8], used: usize, iei: u8, data: &[u8], values: &mut Values) -> u32;
-    fn kept_count(&self, log: &[u8], used: usize, values: &mut Values) -> u32;
-    fn kept_get(&self, log: &[u8], used: usize, k: usize, values: &mut Values) -> u32;
-    fn kept_clear(&self, log: &[u8], used: usize, values: &mut Values) -> u32;
-    fn order_push(&self, log: &mut [u8], used: usize, entry: u8, iei: u8, values: &mut Values) -> u32;
-    fn order_get(&self, log: &[u8], used: usize, k: usize, values: &mut Values) -> u32;
-    fn read(&self, part: &[u8], table: &[u32], start: u8, option: u8, lent: Lent<'_>, values: &mut Values) -> u32;
-    fn read_by(&self, number: u32, part: &[u8], option: u8, lent: Lent<'_>, values: &mut Values) -> u32;
-}
-
-/// What the core of each call is answered by, where no check refuses.
-pub trait Core {
-    const NAME: &'static str;
-    fn length(octets: &[u8], start: u8) -> Option<usize>;
-    fn place_of(index: &[u8; 256], iei: u8) -> Option<usize>;
-    fn kept_push(log: &[u8], iei: u8, data: &[u8]) -> Vec<u8>;
-    fn kept_count(log: &[u8]) -> usize;
-    fn kept_get(log: &[u8], k: usize) -> Option<(usize, usize)>;
-    fn kept_clear(log: &[u8]) -> usize;
-    fn order_push(log: &[u8], entry: u8, iei: u8) -> Vec<u8>;
-    fn order_get(log: &[u8], k: usize) -> Option<Vec<u8>>;
-
-    /// A table that passes the check.
-    type Table;
-    fn table(table: &[u32]) -> Self::Table;
-    fn index(table: &Self::Table) -> [u8; 256];
-    fn read(table: &Self::Table, part: &[u8], start: u8, option: bool) -> Result<Reading, Cut>;
-}
-
-/// Document 01's checks by the judge, the answer of a call that passes them by the Rust: what is right.
-pub struct ByRust;
-
-impl Core for ByRust {
-    const NAME: &'static str = "the Rust";
-
-    fn length(octets: &[u8], start: u8) -> Option<usize> {
-        oracle::generic_ie_length(octets, start)
-    }
-    fn place_of(index: &[u8; 256], iei: u8) -> Option<usize> {
-        oracle::place_of(index, iei)
-    }
-    fn kept_push(log: &[u8], iei: u8, data: &[u8]) -> Vec<u8> {
-        oracle::kept_push(log, iei, data)
-    }
-    fn kept_count(log: &[u8]) -> usize {
-        oracle::kept_count(log)
-    }
-    fn kept_get(log: &[u8], k: usize) -> Option<(usize, usize)> {
-        oracle::kept_get(log, k)
-    }
-    fn kept_clear(log: &[u8]) -> usize {
-        oracle::kept_clear(log)
-    }
-    fn order_push(log: &[u8], entry: u8, iei: u8) -> Vec<u8> {
-        oracle::order_push(log, entry, iei)
-    }
-    fn order_get(log: &[u8], k: usize) -> Option<Vec<u8>> {
-        oracle::order_get(log, k)
-    }
-
-    type Table = oracle::Table;
-    fn table(table: &[u32]) -> Self::Table {
-        oracle::Table::new(table)
-    }
-    fn index(table: &Self::Table) -> [u8; 256] {
-        *table.index()
-    }
-    fn read(table: &Self::Table, part: &[u8], start: u8, option: bool) -> Result<Reading, Cut> {
-        oracle::read(table, part, start, option)
+impl<C: Core> Made<C> {
+    fn new(numbers: &[u32]) -> Self {
+        Self { numbers: numbers.to_vec(), table: C::table(numbers), model: Rc::new(Model::new(numbers)) }
     }
 }
 
-/// Everything by the judge: stands for our side where libnas.a is not linked.
-pub struct ByModel;
-
-impl Core for ByModel {
-    const NAME: &'static str = "the model";
-
-    fn length(octets: &[u8], start: u8) -> Option<usize> {
-        judge::unknown_length(octets, start)
-    }
-    fn place_of(index: &[u8; 256], iei: u8) -> Option<usize> {
-        Some(usize::from(index[usize::from(iei)])).filter(|&place| place != 255)
-    }
-    fn kept_push(log: &[u8], iei: u8, data: &[u8]) -> Vec<u8> {
-        judge::kept_push(log, iei, data)
-    }
-    fn kept_count(log: &[u8]) -> usize {
-        judge::kept_list(log).map_or(0, |list| list.len())
-    }
-    fn kept_get(log: &[u8], k: usize) -> Option<(usize, usize)> {
-        judge::kept_list(log)?.get(k).copied()
-    }
-    fn kept_clear(_: &[u8]) -> usize {
-        0
-    }
-    fn order_push(log: &[u8], entry: u8, iei: u8) -> Vec<u8> {
-        judge::order_push(log, entry, iei)
-    }
-    fn order_get(log: &[u8], k: usize) -> Option<Vec<u8>> {
-        judge::order_list(log)?.get(k).map(|entry| entry.to_vec())
-    }
-
-    type Table = Model;
-    fn table(table: &[u32]) -> Self::Table {
-        Model::new(table)
-    }
-    fn index(table: &Self::Table) -> [u8; 256] {
-        table.index()
-    }
-    fn read(table: &Self::Table, part: &[u8], start: u8, option: bool) -> Result<Reading, Cut> {
-        table.read(part, start, option)
-    }
-}
-
-/// The numbers of a table, and what a core makes of them.
-type Made<C> = (Vec<u32>, Rc<<C as Core>::Table>);
-
-/// A side that is made of document 01's checks and a core. The last table is kept, as it is read by many times.
+/// A side that is made of document 01's checks and a core. The numbered tables are kept, and the last other one, as it is read
+/// by many times.
 pub struct Judged<C: Core> {
-    numbered: Rc<Vec<Vec<u32>>>,
-    last: RefCell<Option<Made<C>>>,
+    numbered: Vec<Rc<Made<C>>>,
+    mandatory: Vec<Vec<u32>>,
+    last: RefCell<Option<Rc<Made<C>>>>,
 }
 
 impl<C: Core> Judged<C> {
-    pub fn new(numbered: Rc<Vec<Vec<u32>>>) -> Self {
-        Self { numbered, last: RefCell::new(None) }
+    pub fn new(tables: &Tables) -> Self {
+        Self {
+            numbered: tables.optional.iter().map(|table| Rc::new(Made::new(table))).collect(),
+            mandatory: tables.mandatory.clone(),
+            last: RefCell::new(None),
+        }
     }
 
-    fn table(&self, table: &[u32]) -> Rc<C::Table> {
+    fn made(&self, table: &[u32]) -> Rc<Made<C>> {
         let mut last = self.last.borrow_mut();
-        match &*last {
-            Some((numbers, made)) if numbers == table => made.clone(),
-            _ => {
-                let made = Rc::new(C::table(table));
-                *last = Some((table.to_vec(), made.clone()));
-                made
-            }
-        }
+        let kept = self.numbered.iter().chain(&*last).find(|made| made.numbers == table).cloned();
+        kept.unwrap_or_else(|| last.insert(Rc::new(Made::new(table))).clone())
+    }
+
+    /// The numbers of a table that has a number, or refusal 5.
+    fn numbers(&self, number: u32) -> Result<&[u32], Answer> {
+        self.numbered.get(number as usize).map(|made| &made.numbers[..]).ok_or_else(|| answer(5, &[]))
     }
 }
 
+/// More octets than any output has that is lent here. More are not written, but counted by the judge.
+const MOST_WRITTEN: u64 = 1 << 24;
+
 fn give(said: Answer, values: &mut Values) -> u32 {
-    values[..said.values.len()].copy_from_slice(&said.values);
+    values[0] = said.values.len() as u64;
+    values[1..=said.values.len()].copy_from_slice(&said.values);
     said.number
 }
 
@@ -192,8 +83,8 @@ impl<C: Core> Side for Judged<C> {
         C::NAME
     }
 
-    fn generic_ie_length(&self, octets: &[u8], start: u8, values: &mut Values) -> u32 {
-        give(C::length(octets, start).map_or(answer(1, &[]), |length| answer(0, &[length])), values)
+    fn generic_ie_length(&self, octets: &[u8], tlve_start: u8, values: &mut Values) -> u32 {
+        give(C::length(octets, tlve_start).map_or(answer(1, &[]), |length| answer(0, &[length])), values)
     }
 
     fn check_table(&self, table: &[u32], values: &mut Values) -> u32 {
@@ -205,7 +96,7 @@ impl<C: Core> Side for Judged<C> {
     }
 
     fn iei_index(&self, table: &[u32], index: &mut [u8; 256]) -> u32 {
-        *index = C::index(&self.table(table));
+        *index = C::index(&self.made(table).table);
         0
     }
 
@@ -254,9 +145,10 @@ impl<C: Core> Side for Judged<C> {
         asked(said, values)
     }
 
-    fn read(&self, part: &[u8], table: &[u32], start: u8, option: u8, lent: Lent<'_>, values: &mut Values) -> u32 {
+    fn read(&self, part: &[u8], table: &[u32], tlve_start: u8, option: u8, lent: Lent<'_>, values: &mut Values) -> u32 {
         let room = Room { rows: lent.rows.len(), kept: lent.kept.len(), order: lent.order.len() };
-        let read = judge::reading(table, part, room, || C::read(&self.table(table), part, start, option != 0));
+        let read =
+            judge::reading(table, part, room, || C::read(&self.made(table).table, part, tlve_start, option != 0));
         let said = match read {
             Ok(reading) => {
                 lent.rows[..reading.rows.len()].copy_from_slice(&reading.rows);
@@ -270,16 +162,178 @@ impl<C: Core> Side for Judged<C> {
     }
 
     fn read_by(&self, number: u32, part: &[u8], option: u8, lent: Lent<'_>, values: &mut Values) -> u32 {
-        match self.numbered.get(number as usize) {
-            Some(table) => self.read(part, table, START, option, lent, values),
+        match self.numbers(number) {
+            Ok(table) => self.read(part, table, START, option, lent, values),
+            Err(refusal) => give(refusal, values),
+        }
+    }
+
+    fn writing(&self) -> Option<&dyn Writing> {
+        Some(self)
+    }
+
+    fn mandatory(&self) -> Option<&dyn Mandatory> {
+        Some(self)
+    }
+
+    fn findings(&self) -> Option<&dyn Findings> {
+        Some(self)
+    }
+}
+
+impl<C: Core> Writing for Judged<C> {
+    fn write(&self, table: &[u32], message: Message<'_>, output: &mut [u8], values: &mut Values) -> u32 {
+        let filled = judge_writing::writing(table, || self.made(table).model.clone(), message);
+        let said = filled.and_then(|filled| {
+            let made = self.made(table);
+            let needed = made.model.needed(&filled);
+            if needed > MOST_WRITTEN {
+                return Err(answer(12, &[needed as usize]));
+            }
+            put(output, &C::write(&made.table, &filled))
+        });
+        asked(said, values)
+    }
+
+    fn write_by(&self, number: u32, message: Message<'_>, output: &mut [u8], values: &mut Values) -> u32 {
+        match self.numbers(number) {
+            Ok(table) => self.write(table, message, output, values),
+            Err(refusal) => give(refusal, values),
+        }
+    }
+
+    fn set(&self, table: &[u32], edited: Edited<'_>, value: &[u8], values: &mut Values) -> u32 {
+        let Edited { rows, received, set, used, place } = edited;
+        let edit = Edit { table, rows, received, set: Used { octets: set, used }, place };
+        let said = judge_writing::setting(edit, value).map(|after| {
+            rows[PLACE * place..][..PLACE].copy_from_slice(&[2, used as u32, value.len() as u32]);
+            set[used..after].copy_from_slice(value);
+            vec![after]
+        });
+        asked(said, values)
+    }
+
+    fn clear(
+        &self,
+        table: &[u32],
+        rows: &mut [u32],
+        received: &[u8],
+        set: Used<'_>,
+        place: usize,
+        values: &mut Values,
+    ) -> u32 {
+        let said = judge_writing::clearing(Edit { table, rows, received, set, place }).map(|()| {
+            rows[PLACE * place..][..PLACE].fill(0);
+            vec![]
+        });
+        asked(said, values)
+    }
+}
+
+impl<C: Core> Mandatory for Judged<C> {
+    fn read_mandatory(
+        &self,
+        part: &[u8],
+        table: &[u32],
+        lenient: u8,
+        rows: &mut [u32],
+        notes: &mut Notes,
+        values: &mut Values,
+    ) -> u32 {
+        let said = judge_mandatory::reading(table, part, rows.len()).map_or_else(
+            |refusal| refusal,
+            |table| {
+                let read = C::read_rows(&table, part, lenient != 0);
+                notes[..read.notes.len()].copy_from_slice(&read.notes);
+                match read.refused {
+                    Some((number, row)) => answer(number, &[row, read.notes.len() / 2]),
+                    None => {
+                        rows[..read.rows.len()].copy_from_slice(&read.rows);
+                        answer(0, &[read.read, read.notes.len() / 2])
+                    }
+                }
+            },
+        );
+        give(said, values)
+    }
+
+    fn read_mandatory_by(
+        &self,
+        number: u32,
+        part: &[u8],
+        lenient: u8,
+        rows: &mut [u32],
+        notes: &mut Notes,
+        values: &mut Values,
+    ) -> u32 {
+        match self.mandatory.get(number as usize) {
+            Some(table) => self.read_mandatory(part, table, lenient, rows, notes, values),
+            None => give(answer(5, &[]), values),
+        }
+    }
+
+    fn write_mandatory(
+        &self,
+        table: &[u32],
+        rows: &[u32],
+        received: &[u8],
+        set: Used<'_>,
+        output: &mut [u8],
+        values: &mut Values,
+    ) -> u32 {
+        let filled = judge_mandatory::writing(table, rows, received, set);
+        asked(filled.and_then(|filled| put(output, &C::write_rows(&filled))), values)
+    }
+
+    fn write_mandatory_by(
+        &self,
+        number: u32,
+        rows: &[u32],
+        received: &[u8],
+        set: Used<'_>,
+        output: &mut [u8],
+        values: &mut Values,
+    ) -> u32 {
+        match self.mandatory.get(number as usize) {
+            Some(table) => self.write_mandatory(table, rows, received, set, output, values),
             None => give(answer(5, &[]), values),
         }
     }
 }
 
+impl<C: Core> Findings for Judged<C> {
+    fn findings(
+        &self,
+        table: &[u32],
+        kept: Used<'_>,
+        order: Used<'_>,
+        findings: &mut [u32],
+        values: &mut Values,
+    ) -> u32 {
+        let said = judge_findings::finding(table, kept, order).and_then(|(kept, order)| {
+            let found = C::findings(&self.made(table).table, kept, order);
+            let lent = findings.get_mut(..2 * found.len()).ok_or_else(|| answer(2, &[4]))?;
+            lent.copy_from_slice(found.as_flattened());
+            Ok(vec![found.len()])
+        });
+        asked(said, values)
+    }
+}
+
+/// Octets into an output: how many they are, or 12.
+fn put(output: &mut [u8], octets: &[u8]) -> Result<Vec<usize>, Answer> {
+    match output.get_mut(..octets.len()) {
+        Some(front) => {
+            front.copy_from_slice(octets);
+            Ok(vec![octets.len()])
+        }
+        None => Err(answer(12, &[octets.len()])),
+    }
+}
+
 /// Our side: libnas.a where it is linked and the model is not asked for.
-pub fn ours(numbered: Rc<Vec<Vec<u32>>>, model: bool) -> Box<dyn Side> {
-    linked().filter(|_| !model).unwrap_or_else(|| Box::new(Judged::<ByModel>::new(numbered)))
+pub fn ours(tables: &Tables, model: bool) -> Box<dyn Side> {
+    linked().filter(|_| !model).unwrap_or_else(|| Box::new(Judged::<ByModel>::new(tables)))
 }
 
 #[cfg(feature = "linked")]

@@ -5,10 +5,12 @@ use std::process::ExitCode;
 use std::time::{Duration, Instant};
 
 use compare::calls::Call;
+use compare::cores::ByRust;
+use compare::interface::{Lent, Side};
 use compare::judge::{Model, Room};
 use compare::oracle::{self, Logs, Table};
 use compare::rows::{Form, PLACE, Row, START, numbered_or_exit};
-use compare::sides::{ByRust, Judged, Lent, Side, ours};
+use compare::sides::{Judged, ours};
 
 /// An input: a part and the number of the table that it is read by.
 struct Input {
@@ -38,16 +40,16 @@ const ROUNDS: usize = 6;
 fn main() -> ExitCode {
     let tables = numbered_or_exit();
     let model = std::env::args().any(|argument| argument == "--model");
-    let ours = ours(tables.clone(), model);
-    let right = Judged::<ByRust>::new(tables.clone());
+    let ours = ours(&tables, model);
+    let right = Judged::<ByRust>::new(&tables);
     println!("{} and the Rust, nanoseconds a call; a ratio below 1 means that ours is faster", ours.name());
     println!(
         "reused: no buffer is cleared between calls; cleared: ours are zeroed and the Rust's made anew for each call"
     );
     println!("number: by table number; lent: ours checks and indexes the table in each call, the Rust indexes it");
     println!("{:50} {:>7} {:16} {:>12} {:>12} {:>7}", "input", "octets", "way", "ours", "Rust", "ratio");
-    for input in inputs(&tables) {
-        let Some(bench) = Bench::new(&*ours, &right, &tables, &input) else {
+    for input in inputs(&tables.optional) {
+        let Some(bench) = Bench::new(&*ours, &right, &tables.optional, &input) else {
             println!("{}: the sides differ: run the comparison first", input.name);
             return ExitCode::FAILURE;
         };
@@ -77,7 +79,7 @@ fn main() -> ExitCode {
             // A part has at most 65,535 octets, one less than 64 KiB.
             let octets = (1024 * kib).min(65_535);
             let input = Input { name: name.into(), number: 0, part: repeat(element, octets) };
-            let Some(bench) = Bench::new(&*ours, &right, &tables, &input) else {
+            let Some(bench) = Bench::new(&*ours, &right, &tables.optional, &input) else {
                 println!("{name}: the sides differ: run the comparison first");
                 return ExitCode::FAILURE;
             };
@@ -172,7 +174,7 @@ impl<'a> Bench<'a> {
         let room = Room { rows: PLACE * table.places(), kept: 131_070, order: 131_070 };
         let call = Call::ReadBy { number: input.number as u32, part: input.part.clone(), option: 0, room };
         let right = call.on(right);
-        let room = Room { rows: room.rows, kept: right.values[0] as usize, order: right.values[1] as usize };
+        let room = Room { rows: room.rows, kept: right.said()[0] as usize, order: right.said()[1] as usize };
         (call.on(ours) == right).then_some(Self { ours, input, lent_table, table, room })
     }
 
@@ -183,7 +185,7 @@ impl<'a> Bench<'a> {
         // No log is lent empty: to clear one of no octets is slow on some machines.
         let mut kept = vec![0; self.room.kept.max(1)];
         let mut order = vec![0; self.room.order.max(1)];
-        let mut values = [0; 4];
+        let mut values = [0; 5];
         let mut ours = || {
             if way == Way::New {
                 rows.fill(0);

@@ -7,13 +7,14 @@ use std::process::ExitCode;
 use std::rc::Rc;
 
 use compare::calls::{Call, Outcome};
+use compare::cores::ByRust;
 use compare::examples;
 use compare::gen_parts::{self, Size};
 use compare::gen_tables;
 use compare::judge::{Model, Room, first_bad};
 use compare::random::Random;
-use compare::rows::{PLACE, START, WIDTH, numbered_or_exit};
-use compare::sides::{ByRust, Judged};
+use compare::rows::{PLACE, START, Tables, WIDTH, numbered_or_exit};
+use compare::sides::Judged;
 
 /// How many cases the list has, and how many of one kind at most.
 const CASES: usize = 3_000;
@@ -23,7 +24,7 @@ const OF_A_KIND: usize = 2;
 const LENT: u8 = 255;
 
 struct Recorder {
-    tables: Rc<Vec<Vec<u32>>>,
+    tables: Rc<Tables>,
     right: Judged<ByRust>,
     random: Random,
     list: Vec<u8>,
@@ -41,7 +42,7 @@ type Kind = (u8, bool, u32, u64, BTreeSet<String>, [i8; 3]);
 fn main() -> ExitCode {
     let tables = numbered_or_exit();
     let mut recorder = Recorder {
-        right: Judged::new(tables.clone()),
+        right: Judged::new(&tables),
         tables,
         random: Random::new(1),
         list: Vec::new(),
@@ -125,7 +126,7 @@ impl Recorder {
         let outcome = call(plenty(5)).on(&self.right);
         self.record(&call(plenty(5)));
         if outcome.number == 0 && self.random.once_in(2) {
-            let exact = Room { rows: PLACE * 5, kept: outcome.values[0] as usize, order: outcome.values[1] as usize };
+            let exact = Room { rows: PLACE * 5, kept: outcome.said()[0] as usize, order: outcome.said()[1] as usize };
             self.record(&call(exact));
             self.record(&call(Room { kept: exact.kept.saturating_sub(1), ..exact }));
             self.record(&call(Room { order: exact.order.saturating_sub(1), ..exact }));
@@ -148,12 +149,18 @@ impl Recorder {
             let bad = gen_tables::damaged(&mut self.random, table.clone(), WIDTH);
             if refused < 40 && bad.len() <= 5 * WIDTH && first_bad(&bad).is_some() {
                 refused += 1;
-                self.record(&Call::Read { part: part.clone(), table: bad, start, option: 0, room: plenty(5) });
+                self.record(&Call::Read {
+                    part: part.clone(),
+                    table: bad,
+                    tlve_start: start,
+                    option: 0,
+                    room: plenty(5),
+                });
             }
             self.around(&model, part, |part, option, room| Call::Read {
                 part,
                 table: table.clone(),
-                start,
+                tlve_start: start,
                 option,
                 room,
             });
@@ -175,7 +182,7 @@ impl Recorder {
 
     /// Parts under the seven numbered tables, until the list is full.
     fn sample(&mut self) {
-        let models: Vec<Model> = self.tables.iter().map(|table| Model::new(table)).collect();
+        let models: Vec<Model> = self.tables.optional.iter().map(|table| Model::new(table)).collect();
         while (self.cases as usize) < CASES {
             let number = self.random.below(7);
             let model = &models[number];
@@ -197,7 +204,7 @@ impl Recorder {
     fn around(&mut self, model: &Model, part: Vec<u8>, call: impl Fn(Vec<u8>, u8, Room) -> Call) {
         let option = self.random.pick(&[0, 0, 1, 255]);
         let start = match call(Vec::new(), 0, plenty(0)) {
-            Call::Read { start, .. } => start,
+            Call::Read { tlve_start, .. } => tlve_start,
             _ => START,
         };
         let reading = model.read(&part, start, option != 0).ok();
@@ -220,7 +227,14 @@ impl Recorder {
             Call::ReadBy { number, .. } => *number as u8,
             _ => LENT,
         };
-        let kind = (table, option != 0, outcome.number, outcome.values[0].min(4), verdicts, rooms);
+        let kind = (
+            table,
+            option != 0,
+            outcome.number,
+            outcome.said().first().map_or(4, |&value| value.min(4)),
+            verdicts,
+            rooms,
+        );
         let recorded = self.kinds.entry(kind).or_default();
         if *recorded < OF_A_KIND {
             *recorded += 1;
@@ -233,7 +247,9 @@ impl Recorder {
         let outcome = call.on(&self.right);
         let (number, table, start, option, part, room) = match call {
             Call::ReadBy { number, part, option, room } => (*number as u8, &[][..], START, *option, part, room),
-            Call::Read { part, table, start, option, room } => (LENT, &table[..], *start, *option, part, room),
+            Call::Read { part, table, tlve_start, option, room } => {
+                (LENT, &table[..], *tlve_start, *option, part, room)
+            }
             _ => unreachable!("only readings are recorded"),
         };
         self.cases += 1;
@@ -250,21 +266,15 @@ impl Recorder {
     }
 
     fn outcome(&mut self, outcome: &Outcome, number: u8, lent_places: usize) {
-        let values = match outcome.number {
-            0 => 2,
-            1 => 3,
-            2 | 4 => 1,
-            _ => 0,
-        };
-        self.list.extend([outcome.number as u8, values as u8]);
-        for value in &outcome.values[..values] {
+        self.list.extend([outcome.number as u8, outcome.said().len() as u8]);
+        for value in outcome.said() {
             self.list.extend((*value as u32).to_be_bytes());
         }
         let done = outcome.number == 0;
         let places = match (done, number) {
             (false, _) => 0,
             (true, LENT) => lent_places,
-            (true, number) => self.tables[usize::from(number)].len() / WIDTH,
+            (true, number) => self.tables.optional[usize::from(number)].len() / WIDTH,
         };
         let rows: Vec<&[u32]> = outcome.rows[..PLACE * places].chunks(PLACE).collect();
         let present: Vec<usize> = (0..places).filter(|&place| rows[place][0] == 1).collect();
@@ -274,11 +284,11 @@ impl Recorder {
             self.list.extend((rows[place][1] as u16).to_be_bytes());
             self.list.extend((rows[place][2] as u16).to_be_bytes());
         }
-        let used = |k: usize| if done { outcome.values[k] as usize } else { 0 };
+        let used = |k: usize| if done { outcome.said()[k] as usize } else { 0 };
         let (kept, order) = (&outcome.logs[0][..used(0)], &outcome.logs[1][..used(1)]);
         self.string(kept);
         self.string(order);
-        let which = if outcome.number == 2 { outcome.values[0] } else { 0 };
+        let which = if outcome.number == 2 { outcome.said()[0] } else { 0 };
         *self.numbers.entry((outcome.number, which)).or_default() += 1;
         let mut entries = order.iter();
         while let Some(entry) = entries.next() {

@@ -19,7 +19,7 @@ use Rattle.definitions.proofs.Steps.{Frames, whole-frames, front-octets, front-
 use Rattle.order.specs.declared.Placed.{Placed}
 use Rattle.rows.specs.Numbers.{numbersAt, rowSaid, Whole}
 use Rattle.seen.specs.Seen.{setOf, seenOf, includingPlace}
-use Rattle.elements.specs.Steps.{elementOf, stateOf, stepOf, metOf, fitOf, cameKnown, cameStrange, stateAt, stateAfter, foundAt}
+use Rattle.elements.specs.Steps.{elementOf, stateOf, stepOf, metOf, fitOf, cameKnown, cameStrange, stateAt, foundAt}
 use Rattle.rows.specs.Indexed.{Indexed}
 use Rattle.elements.specs.declared.element.State.{State}
 use Rattle.elements.specs.declared.element.Came.{Came}

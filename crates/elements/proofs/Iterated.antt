@@ -3,7 +3,7 @@
 use Prim.Native.Nat.{ℕ, zero, suc, _+_, _≤_}
 use native.Mathlib.Omega.{arith}
 use mathlib.Core.Path.{_≡_, refl, ap, ap₂, sym, _∙_}
-use mathlib.Core.List.{List, [], _∷_}
+use mathlib.Core.List.{List}
 use mathlib.Core.Bool.{Bool}
 use mathlib.Core.Option.{none}
 use lib.ListN.{length, drop}
@@ -12,7 +12,7 @@ use Rattle.definitions.specs.Rows.{Row, firstBad}
 use Rattle.definitions.specs.Elements.{Element as DefElement, Parted, elements, cutShort, before, step, parted}
 use Rattle.elements.specs.Steps.{elementOf, stepOf, metOf}
 use Rattle.elements.specs.Nexts.{startState, nextAs, nextFrom, nextOf}
-use Rattle.elements.specs.Iterates.{Found, also, onward, iterated, told, foundIn}
+use Rattle.elements.specs.Iterates.{also, onward, iterated, told, foundIn}
 use Rattle.elements.specs.declared.element.State.{State}
 use Rattle.elements.specs.declared.element.Element.{Element}
 use Rattle.elements.specs.declared.element.Step.{Step}

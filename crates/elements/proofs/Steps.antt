@@ -1,17 +1,15 @@
 -- A step by what stands at the front, and the place of its IEI by an index.
 -- The index has the table's own entries; one that is 255 is no place.
-use Prim.Native.Nat.{ℕ, zero, suc, _≤_, _<_, min}
+use Prim.Native.Nat.{ℕ, _<_}
 use native.Mathlib.Omega.{arith}
-use mathlib.Core.Path.{_≡_, refl, ap, sym, _∙_}
+use mathlib.Core.Path.{_≡_, refl, ap, _∙_}
 use mathlib.Core.List.{List, [], _∷_}
 use mathlib.Core.Bool.{Bool}
-use mathlib.Core.Option.{Option, none, some, Option·getD}
 use native.Mathlib.Nat.{add-zero}
 use lib.ListN.{length, getD, drop}
 use lib.Seq.{getD-drop}
-use Rattle.definitions.specs.Rows.{Row, rowsOf, ieiOf, placeOf, indexEntry}
+use Rattle.definitions.specs.Rows.{Row, ieiOf, placeOf}
 use Rattle.definitions.specs.Elements.{Met, step, placeStep, ended}
-use Rattle.rows.specs.Indexed.{Indexed}
 
 module _ (t : List Row) (start : ℕ) (option : Bool) (m : Met) (at : ℕ) where
   pub step-end : (s : List ℕ) → length s ≡ 0 → step t start option m at s ≡ ended

@@ -1,18 +1,16 @@
 -- A step of reading by the definition of a step: each answer, as the numbers that the code holds.
-use Prim.Native.Nat.{ℕ, _+_, _<_, max}
-use mathlib.Core.Path.{_≡_}
+use Prim.Native.Nat.{ℕ, _+_, max}
 use mathlib.Core.List.{List}
 use mathlib.Core.Bool.{Bool}
 use mathlib.Core.Option.{Option, none, some, Option·getD}
-use lib.ListN.{length, getD}
+use lib.ListN.{length}
 use lib.Dec.{eqb}
 use Rattle.definitions.specs.Basic.{pick}
-use Rattle.definitions.specs.Rows.{Row, form, rowsOf, placeOf, indexEntry}
+use Rattle.definitions.specs.Rows.{Row, form}
 use Rattle.definitions.specs.Length.{whole, required}
 use Rattle.definitions.specs.Elements.{Verdict, accepted, unknown, malformed, repeated, outOfSequence, judged, taken, octetsOf, Element as DefElement, ieiAt, Met, Step as DefStep, next, cut, ended}
 use Rattle.order.specs.declared.Placed.{Placed}
 use Rattle.order.specs.declared.IgnoredIeReason.{IgnoredIeReason}
-use Rattle.rows.specs.Numbers.{Whole}
 use Rattle.seen.specs.Seen.{setOf, seenOf, includingPlace}
 use Rattle.elements.specs.declared.element.State.{State}
 use Rattle.elements.specs.declared.element.Element.{Element}

@@ -1,16 +1,16 @@
 -- The questions to a kept log by what a whole walk tells of it.
 -- The walk tells that the log is malformed, or its elements; the checks are then the definition's, in their order.
-use Prim.Native.Nat.{ℕ, zero, suc, _+_, _-_, _≤_, _<_}
+use Prim.Native.Nat.{ℕ, _+_, _-_, _≤_}
 use native.Mathlib.Omega.{arith}
-use mathlib.Core.Path.{_≡_, refl, ap, sym, _∙_}
+use mathlib.Core.Path.{_≡_, refl, sym}
 use mathlib.Core.List.{List, [], _∷_}
-use mathlib.Core.Bool.{Bool, true, false}
+use mathlib.Core.Bool.{true, false}
 use mathlib.Core.Option.{Option, none, some}
 use borrow.Author.Tests.{le-ltb, eq-eqb, ne-eqb}
 use lib.ListN.{length, take}
-use Rattle.definitions.specs.Basic.{isNone, Answer, answer, Used, content, tooLong, mostLog}
+use Rattle.definitions.specs.Basic.{isNone, answer, Used, content, tooLong, mostLog}
 use Rattle.definitions.specs.Logs.{keptList, keptAt, orEmpty, keptCount, keptGet}
-use Rattle.definitions.proofs.Logs.{past-buffer, past-limit, not-long, asking-long, asking-bad, asking-done}
+use Rattle.definitions.proofs.Logs.{not-long, asking-long, asking-bad, asking-done}
 use Rattle.kept.specs.Kept.{usedOf, foundBy, tell, startWalk}
 
 -- what a walk tells of the whole log

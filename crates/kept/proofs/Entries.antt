@@ -1,13 +1,13 @@
 -- What is written where there is room: an entry, and how many octets it takes.
 -- The tests before it are settled.
 use Prim.Native.Nat.{ℕ, _≤_}
-use mathlib.Core.Path.{_≡_, refl, ap}
-use mathlib.Core.List.{List, [], _∷_}
-use lib.ListN.{length, getD}
+use mathlib.Core.Path.{_≡_}
+use mathlib.Core.List.{List}
+use lib.ListN.{length}
 use borrow.Author.Tests.{le-leb}
 use Rattle.definitions.specs.Basic.{over}
 use Rattle.kept.specs.Kept.{ifRoom, keptInto, keptTakes}
-use Rattle.definitions.specs.Logs.{Reason, byForm, again, late, ignored, orderEntry, keptEntry}
+use Rattle.definitions.specs.Logs.{keptEntry}
 
 pub if-room : (s d : List ℕ) → length s ≤ length d → ifRoom s d ≡ over s d
 unfolding ifRoom

@@ -1,6 +1,6 @@
 -- Equal numbers and values come from equal answers: each map from an answer of this crate to document 01's answers tells two
 -- answers apart. By cases; two constructors are never equal.
-use mathlib.Core.Path.{_≡_, refl, sym, ap}
+use mathlib.Core.Path.{_≡_, refl, ap}
 use Prim.Native.Nat.{ℕ}
 use Rattle.definitions.specs.Basic.{Answer}
 use Rattle.kept.specs.Kept.{pushedAs, countedAs, gotAs}

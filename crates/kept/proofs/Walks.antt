@@ -1,9 +1,9 @@
 -- A walk over a kept log, an entry at a time: what is told from the next entry on is what was told from this one on.
 -- By the order of the wanted number and the entries passed: it was met before, it is this one, or it is further on.
-use Prim.Native.Nat.{ℕ, zero, suc, _+_, _-_, _≤_, _<_}
+use Prim.Native.Nat.{ℕ, suc, _+_, _-_, _≤_, _<_}
 use native.Mathlib.Omega.{arith}
 use mathlib.Core.Path.{_≡_, refl, ap, ap₂, sym, _∙_}
-use mathlib.Core.List.{List, [], _∷_, _++_}
+use mathlib.Core.List.{List, [], _∷_}
 use mathlib.Core.Bool.{Bool, true, false}
 use mathlib.Core.Option.{Option, none, some}
 use borrow.Author.Tests.{eq-eqb, ne-eqb, lt-ltb, le-ltb, eqb-true, eqb-false, ltb-true, ltb-false, leb-true}
@@ -13,8 +13,7 @@ use lib.Dec.{eqb, ltb, leb}
 use Rattle.definitions.specs.Basic.{pick}
 use Rattle.definitions.specs.Logs.{leb128, keptEntry, Count, countAt, put, keptList, keptAt}
 use Rattle.definitions.proofs.Logs.{entryOf, keptBy, kept-front, kept-nil, Allowed, count-allowed}
-use Rattle.kept.specs.Kept.{countOf, passed, stepOf, foundBy, tell, startWalk}
-use Rattle.kept.specs.declared.Count.{Count as Found}
+use Rattle.kept.specs.Kept.{passed, stepOf, foundBy, tell, startWalk}
 use Rattle.kept.specs.declared.Walk.{Walk}
 use Rattle.kept.specs.declared.Step.{Step}
 

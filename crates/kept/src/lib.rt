@@ -3,9 +3,9 @@
 use octets::MOST_OCTETS;
 use octets::part;
 ghost use mathlib.Core.Path.{_≡_};
-ghost use mathlib.Core.List.{_++_, _∷_};
+ghost use mathlib.Core.List.{_∷_};
 ghost use Prim.Native.Nat.{_+_, _*_, _%_, _≤_, _<_};
-ghost use lib.ListN.{length, take, drop};
+ghost use lib.ListN.{length, drop};
 ghost use Rattle.definitions.specs.Basic.{over};
 ghost use Rattle.definitions.specs.Logs.{leb128, keptEntry, countAt, allowed, keptList, keptPush, keptCount, keptGet, keptClear};
 ghost use Rattle.definitions.proofs.Logs.{entryOf};

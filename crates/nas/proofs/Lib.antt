@@ -1,3 +1,2 @@
--- Laws of the C interface.
--- What the proofs of its functions cite.
-pub mod Laws
+-- Laws that the proofs of this crate cite.
+pub mod NoEntry

@@ -1,4 +1,2 @@
--- What the calls of the C interface return.
-pub mod Says
+-- What the calls of the C interface take.
 pub mod Entries
-pub mod Nexts

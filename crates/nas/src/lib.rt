@@ -1,20 +1,19 @@
-// The C interface: document 01's calls on numbers and slices. Each returns document 01's number and puts its values, in
-// document 01's order, into four lent places; the places that it does not need stay as they were. A slice is handed over as a
-// pointer and a length.
-mod answers;
+// The C interface: document 01's calls on numbers and slices. Each returns document 01's number and puts into five lent places
+// how many values there are, then the values in document 01's order; the places behind them stay as they were. A slice is
+// handed over as a pointer and a length. tlve_start is the start number of the long form.
 mod entries;
 
-use crate::answers::checked_said;
-use crate::answers::counted_said;
-use crate::answers::decoded_said;
-use crate::answers::entry_said;
-use crate::answers::got_said;
-use crate::answers::length_said;
-use crate::answers::next_said;
-use crate::answers::place_said;
-use crate::answers::pushed_said;
-use crate::answers::shown_said;
 use crate::entries::push_by;
+use answers::checked_said;
+use answers::counted_said;
+use answers::decoded_said;
+use answers::entry_said;
+use answers::got_said;
+use answers::length_said;
+use answers::next_said;
+use answers::place_said;
+use answers::pushed_said;
+use answers::shown_said;
 use elements::element::State;
 use elements::next::next_element;
 use kept::kept_clear;
@@ -44,20 +43,20 @@ ghost use Rattle.kept.specs.Kept.{usedOf};
 ghost use Rattle.reading.specs.Decodes.{lentOf};
 ghost use Rattle.elements.specs.Nexts.{nextOf};
 ghost use Rattle.nas.specs.Entries.{orderPushBy};
-ghost use Rattle.nas.specs.Nexts.{stateBy, NextSays};
-ghost use Rattle.nas.specs.Says.{Says, ReadSays, checkAnswer, placeAnswer, lengthAnswer};
+ghost use Rattle.answers.specs.Nexts.{stateBy, NextSays};
+ghost use Rattle.answers.specs.Says.{Says, ReadSays, checkAnswer, placeAnswer, lengthAnswer};
 
 // The length of an unknown element from the octets from its first octet on: 0 and the length, or 1, cut short.
 #[no_mangle]
-pub extern "C" fn nas_generic_ie_length(octets: &[u8], start: u8, values: &mut [u64; 4]) -> u32
-    ensures { λ r. ⌜ Says (lengthAnswer (unknownLength start (now (octets .entry)))) r (now (values .entry)) (now (values .exit)) ⌝ }
+pub extern "C" fn nas_generic_ie_length(octets: &[u8], tlve_start: u8, values: &mut [u64; 5]) -> u32
+    ensures { λ r. ⌜ Says (lengthAnswer (unknownLength «tlve_start» (now (octets .entry)))) r (now (values .entry)) (now (values .exit)) ⌝ }
 {
-    length_said(generic_ie_length(octets, start), values)
+    length_said(generic_ie_length(octets, tlve_start), values)
 }
 
 // A table of optional elements: 0 where it passes, or 4 and its first bad row.
 #[no_mangle]
-pub extern "C" fn nas_check_table(table: &[u32], values: &mut [u64; 4]) -> u32
+pub extern "C" fn nas_check_table(table: &[u32], values: &mut [u64; 5]) -> u32
     ensures { λ r. ⌜ Says (checkAnswer (firstBad (rowsOf (now (table .entry))))) r (now (values .entry)) (now (values .exit)) ⌝ }
 {
     checked_said(check_table(table), values)
@@ -65,7 +64,7 @@ pub extern "C" fn nas_check_table(table: &[u32], values: &mut [u64; 4]) -> u32
 
 // A table of mandatory rows: 0 where it passes, or 4 and its first bad row.
 #[no_mangle]
-pub extern "C" fn nas_check_mandatory_table(table: &[u32], values: &mut [u64; 4]) -> u32
+pub extern "C" fn nas_check_mandatory_table(table: &[u32], values: &mut [u64; 5]) -> u32
     ensures { λ r. ⌜ Says (checkAnswer (firstBadMandatory (mandatoryRowsOf (now (table .entry))))) r (now (values .entry)) (now (values .exit)) ⌝ }
 {
     checked_said(check_mandatory_table(table), values)
@@ -82,7 +81,7 @@ pub extern "C" fn nas_iei_index(table: &[u32], index: &mut [u8; 256]) -> u32
 
 // What an index says of an IEI: 0 and the place, or 0 and no value. An index that ends before the IEI has no place for it.
 #[no_mangle]
-pub extern "C" fn nas_place_of(index: &[u8], iei: u8, values: &mut [u64; 4]) -> u32
+pub extern "C" fn nas_place_of(index: &[u8], iei: u8, values: &mut [u64; 5]) -> u32
     ensures { λ r. ⌜ Says (placeAnswer (placeIn (now (index .entry)) iei)) r (now (values .entry)) (now (values .exit)) ⌝ }
 {
     place_said(place_of(index, iei), values)
@@ -95,7 +94,7 @@ pub extern "C" fn nas_kept_push(
     used: usize,
     iei: u8,
     octets: &[u8],
-    values: &mut [u64; 4],
+    values: &mut [u64; 5],
 ) -> u32
     ensures { λ r. ⌜ Says (keptPush (usedOf (now (log .entry)) used) iei (now (octets .entry)) .said) r (now (values .entry)) (now (values .exit)) × (now (log .exit) ≡ keptPush (usedOf (now (log .entry)) used) iei (now (octets .entry)) .log) ⌝ }
 {
@@ -104,7 +103,7 @@ pub extern "C" fn nas_kept_push(
 
 // How many elements a kept log holds: 0 and the count; 3; 11 and 2.
 #[no_mangle]
-pub extern "C" fn nas_kept_count(log: &[u8], used: usize, values: &mut [u64; 4]) -> u32
+pub extern "C" fn nas_kept_count(log: &[u8], used: usize, values: &mut [u64; 5]) -> u32
     ensures { λ r. ⌜ Says (keptCount (usedOf (now (log .entry)) used)) r (now (values .entry)) (now (values .exit)) ⌝ }
 {
     counted_said(kept_count(log, used), values)
@@ -113,7 +112,7 @@ pub extern "C" fn nas_kept_count(log: &[u8], used: usize, values: &mut [u64; 4])
 // The element of a kept log at a number from 0: 0, its start in the log, IEI first, and its length; past the last 0 and no
 // value; 3; 11 and 2.
 #[no_mangle]
-pub extern "C" fn nas_kept_get(log: &[u8], used: usize, k: usize, values: &mut [u64; 4]) -> u32
+pub extern "C" fn nas_kept_get(log: &[u8], used: usize, k: usize, values: &mut [u64; 5]) -> u32
     ensures { λ r. ⌜ Says (keptGet (usedOf (now (log .entry)) used) k) r (now (values .entry)) (now (values .exit)) ⌝ }
 {
     got_said(kept_get(log, used, k), values)
@@ -121,7 +120,7 @@ pub extern "C" fn nas_kept_get(log: &[u8], used: usize, k: usize, values: &mut [
 
 // Every element out of a kept log: 0 and 0, the octets then used. No octet changes.
 #[no_mangle]
-pub extern "C" fn nas_kept_clear(log: &[u8], used: usize, values: &mut [u64; 4]) -> u32
+pub extern "C" fn nas_kept_clear(log: &[u8], used: usize, values: &mut [u64; 5]) -> u32
     ensures { λ r. ⌜ Says (keptClear (usedOf (now (log .entry)) used) .said) r (now (values .entry)) (now (values .exit)) ⌝ }
 {
     pushed_said(kept_clear(log, used), 2, 2, values)
@@ -135,7 +134,7 @@ pub extern "C" fn nas_order_push(
     used: usize,
     entry: u8,
     iei: u8,
-    values: &mut [u64; 4],
+    values: &mut [u64; 5],
 ) -> u32
     ensures { λ r. ⌜ Says (orderPushBy (usedOf (now (log .entry)) used) «entry» iei .said) r (now (values .entry)) (now (values .exit)) × (now (log .exit) ≡ orderPushBy (usedOf (now (log .entry)) used) «entry» iei .log) ⌝ }
 {
@@ -144,7 +143,7 @@ pub extern "C" fn nas_order_push(
 
 // The entry of an order log at a number from 0: 0 and its octets; past the last 0 and no value; 3; 11 and 1.
 #[no_mangle]
-pub extern "C" fn nas_order_get(log: &[u8], used: usize, k: usize, values: &mut [u64; 4]) -> u32
+pub extern "C" fn nas_order_get(log: &[u8], used: usize, k: usize, values: &mut [u64; 5]) -> u32
     ensures { λ r. ⌜ Says (orderGet (usedOf (now (log .entry)) used) k) r (now (values .entry)) (now (values .exit)) ⌝ }
 {
     entry_said(order_get(log, used, k), values)
@@ -156,17 +155,17 @@ pub extern "C" fn nas_order_get(log: &[u8], used: usize, k: usize, values: &mut 
 pub extern "C" fn nas_read(
     part: &[u8],
     table: &[u32],
-    start: u8,
+    tlve_start: u8,
     option: u8,
     rows: &mut [u32],
     kept: &mut [u8],
     order: &mut [u8],
-    values: &mut [u64; 4],
+    values: &mut [u64; 5],
 ) -> u32
-    ensures { λ r. ⌜ ReadSays (reading (now (table .entry)) start (not (eqb option 0)) (now (part .entry)) (lentOf (now (rows .entry)) (now (kept .entry)) (now (order .entry)))) r (now (values .entry)) (now (values .exit)) (now (rows .exit)) (now (kept .exit)) (now (order .exit)) ⌝ }
+    ensures { λ r. ⌜ ReadSays (reading (now (table .entry)) «tlve_start» (not (eqb option 0)) (now (part .entry)) (lentOf (now (rows .entry)) (now (kept .entry)) (now (order .entry)))) r (now (values .entry)) (now (values .exit)) (now (rows .exit)) (now (kept .exit)) (now (order .exit)) ⌝ }
 {
     decoded_said(
-        decode_optional_ies(part, table, start, option != 0, rows, kept, order),
+        decode_optional_ies(part, table, tlve_start, option != 0, rows, kept, order),
         values,
     )
 }
@@ -180,7 +179,7 @@ pub extern "C" fn nas_read_by(
     rows: &mut [u32],
     kept: &mut [u8],
     order: &mut [u8],
-    values: &mut [u64; 4],
+    values: &mut [u64; 5],
 ) -> u32
     ensures { λ r. ⌜ ReadSays (readingBy number (not (eqb option 0)) (now (part .entry)) (lentOf (now (rows .entry)) (now (kept .entry)) (now (order .entry)))) r (now (values .entry)) (now (values .exit)) (now (rows .exit)) (now (kept .exit)) (now (order .exit)) ⌝ }
 {
@@ -197,12 +196,12 @@ pub extern "C" fn nas_read_by(
 pub extern "C" fn nas_next(
     part: &[u8],
     table: &[u32],
-    start: u8,
+    tlve_start: u8,
     option: u8,
     state: &mut [u64; 4],
-    values: &mut [u64; 4],
+    values: &mut [u64; 5],
 ) -> u32
-    ensures { λ r. ⌜ NextSays (nextOf (rowsOf (now (table .entry))) start (not (eqb option 0)) (now (part .entry)) (stateBy (now (state .entry)))) r (now (values .entry)) (now (values .exit)) (now (state .entry)) (now (state .exit)) ⌝ }
+    ensures { λ r. ⌜ NextSays (nextOf (rowsOf (now (table .entry))) «tlve_start» (not (eqb option 0)) (now (part .entry)) (stateBy (now (state .entry)))) r (now (values .entry)) (now (values .exit)) (now (state .entry)) (now (state .exit)) ⌝ }
 {
     let from = State {
         at: state[0] as usize,
@@ -213,7 +212,7 @@ pub extern "C" fn nas_next(
         highest: state[3] as usize,
     };
     next_said(
-        next_element(part, table, start, option != 0, from),
+        next_element(part, table, tlve_start, option != 0, from),
         state,
         values,
     )
@@ -229,7 +228,7 @@ pub extern "C" fn nas_show<'a>(
     set: &'a [u8],
     used: usize,
     place: usize,
-    values: &mut [u64; 4],
+    values: &mut [u64; 5],
 ) -> u32
     ensures { λ r. ⌜ Says (showing (now (table .entry)) (now (rows .entry)) (now (received .entry)) (usedOf (now (set .entry)) used) place) r (now (values .entry)) (now (values .exit)) ⌝ }
 {

@@ -1,6 +1,6 @@
 -- A walk over an order log, an entry at a time: what is told from the next entry on is what was told from this one on.
 -- By the order of the wanted number and the entries passed; then the questions and the push by what a whole walk tells.
-use Prim.Native.Nat.{ℕ, zero, suc, _+_, _-_, _≤_, _<_}
+use Prim.Native.Nat.{ℕ, suc, _+_, _-_, _≤_, _<_}
 use native.Mathlib.Omega.{arith}
 use mathlib.Core.Path.{_≡_, refl, ap, sym, _∙_}
 use mathlib.Core.List.{List, [], _∷_}

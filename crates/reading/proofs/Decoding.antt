@@ -1,22 +1,19 @@
 -- Reading by what measuring and filling say: each answer of the code is the definition's, with the lent memory that it leaves.
 -- A refusal leaves all as it was; where reading is done, what was filled is the definition's.
-use Prim.Native.Nat.{ℕ, zero, suc, _+_, _*_, _≤_, _<_}
+use Prim.Native.Nat.{ℕ, _+_, _*_, _≤_, _<_}
 use native.Mathlib.Omega.{arith}
 use mathlib.Core.Path.{_≡_, refl, ap, sym, _∙_}
 use mathlib.Core.List.{List, []}
 use mathlib.Core.Bool.{Bool, true, false}
 use mathlib.Core.Option.{none, some}
-use lib.ListN.{length, getD}
+use lib.ListN.{length}
 use Rattle.definitions.specs.Basic.{pick, Answer, answer, over, mostOctets}
-use Rattle.definitions.specs.Rows.{Row, rowsOf, firstBad, index}
+use Rattle.definitions.specs.Rows.{Row, rowsOf, firstBad}
 use Rattle.definitions.specs.Elements.{Element, Parted, elements, cutShort, elementsOf, parted}
 use Rattle.definitions.specs.Logs.{keptOf, entriesOf, plainFrom, orderOf}
 use Rattle.definitions.specs.Reading.{Lent, Read, unread, readElements, reading, readingBy}
 use Rattle.definitions.specs.Tables.{tableOf, startOf}
 use Rattle.definitions.proofs.Readings.{read-long, read-rows, read-cut, read-kept, read-order, read-done}
-use Rattle.definitions.proofs.RowLaws.{listed}
-use Rattle.definitions.proofs.TableLaws.{index-at, few-places}
-use Rattle.rows.proofs.WholeRows.{whole-rows}
 use Rattle.rows.specs.Indexed.{Indexed}
 use Rattle.reading.specs.Measures.{measuredFrom, noTally}
 use Rattle.reading.specs.Fills.{notesOf, Ready, Written}

@@ -14,7 +14,7 @@ use lib.Dec.{eqb}
 use Rattle.definitions.specs.Basic.{pick, bit, over, overAt}
 use Rattle.definitions.specs.Rows.{Row, rowAt, form, firstBad}
 use Rattle.definitions.specs.Length.{header}
-use Rattle.definitions.specs.Elements.{Verdict, accepted, unknown, malformed, repeated, outOfSequence, isAccepted, isAt, Element, ieiAt, Met, nothingMet, meet, including, parted, elements, stranger, known}
+use Rattle.definitions.specs.Elements.{Verdict, accepted, unknown, malformed, repeated, outOfSequence, isAccepted, isAt, Element, ieiAt, Met, meet, parted, elements}
 use Rattle.definitions.specs.Reading.{received, placeRow, placeRowsFrom, placeRows}
 use Rattle.definitions.proofs.BitLaws.{bit-including}
 use Rattle.definitions.proofs.Steps.{Stands, strange, placed, Reads, end, more, reads}

@@ -2,7 +2,7 @@
 -- code is found again. By cases.
 use Prim.Native.Nat.{ℕ, zero, suc}
 use mathlib.Core.Path.{_≡_, refl, ap, sym, _∙_}
-use mathlib.Core.List.{List, [], _∷_}
+use mathlib.Core.List.{List}
 use lib.ListN.{getD}
 use Rattle.definitions.specs.Basic.{Answer}
 use Rattle.reading.specs.Decodes.{decodedAs}

@@ -1,20 +1,18 @@
 -- What a part needs by its first element and what is behind it, as the code adds it up.
 -- By the element's verdict; sums and conjunctions are regrouped.
-use Prim.Native.Nat.{ℕ, zero, suc, _+_, _*_, _≤_, _<_}
+use Prim.Native.Nat.{ℕ, _+_, _*_, _≤_}
 use native.Mathlib.Omega.{arith}
 use native.Mathlib.Numerals.{add-one}
-use mathlib.Core.Path.{_≡_, refl, ap, ap₂, sym, _∙_}
+use mathlib.Core.Path.{_≡_, refl, ap, sym, _∙_}
 use mathlib.Core.List.{List, [], _∷_, _++_}
 use mathlib.Core.Bool.{Bool, true, false, _&&_, true≢false}
 use mathlib.Core.Option.{Option, none, some}
-use borrow.Author.Tests.{lt-leb, le-leb}
 use lib.ListN.{length, length-append}
 use lib.Dec.{leb, eqb}
-use Rattle.definitions.specs.Basic.{pick}
 use Rattle.definitions.specs.Rows.{Row, firstIei}
 use Rattle.definitions.specs.Elements.{Verdict, accepted, unknown, malformed, repeated, outOfSequence, Element, ieiAt, isAccepted, Parted, elements, cutShort, before, Met, stranger, known}
 use Rattle.definitions.specs.Logs.{leb128, keptEntry, keptOf, placedOf, orderEntry, entriesOf, plainFrom}
-use Rattle.definitions.proofs.Logs.{entry-length, count-short}
+use Rattle.definitions.proofs.Logs.{entry-length}
 use Rattle.definitions.proofs.LogLaws.{leb-room}
 use Rattle.definitions.proofs.Steps.{Stands, strange, placed}
 use Rattle.elements.specs.Steps.{elementOf}

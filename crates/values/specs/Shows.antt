@@ -1,10 +1,9 @@
 -- Showing a value: the numbers of a row, and the answer, by the definition of showing.
 use Prim.Native.Nat.{ℕ}
-use mathlib.Core.List.{List, [], _∷_}
+use mathlib.Core.List.{[], _∷_}
 use Rattle.definitions.specs.Basic.{pick, Answer, answer}
 use Rattle.definitions.specs.Rows.{Form}
 use Rattle.definitions.specs.Values.{Octets, Value, present, octetsAt, fits, shownBy}
-use Rattle.values.specs.declared.row.ValueRow.{ValueRow}
 use Rattle.values.specs.declared.show.Shown.{Shown}
 
 abbrev pub shownAs : Shown → Answer

@@ -1,7 +1,6 @@
 -- `allowed_count` is the range of a count.
 -- Each branch settles one end of it.
 use native.Mathlib.Omega.{arith}
-use mathlib.Core.Path.{_≡_}
 use borrow.Author.Tests.{le-leb, lt-leb}
 use Rattle.definitions.specs.Logs.{allowed}
 use Rattle.kept.proofs.allowed_count.Statement.{statement}

@@ -1,7 +1,7 @@
 -- `count_at` is the count at the front: each way out has its law, whose facts are the branches that led there.
 -- The numbers put together are those of `bits`.
 use native.Mathlib.Omega.{arith}
-use mathlib.Core.Path.{_≡_, ap, sym, _∙_}
+use mathlib.Core.Path.{ap, sym}
 use Rattle.kept.specs.Kept.{countOf}
 use Rattle.kept.proofs.Counts.{none-left, one, two-short, two-zero, two, three-short, three-zero, three-over, three}
 use borrow.Author.Needs.{needs}

@@ -1,7 +1,7 @@
 -- `kept_count` is a whole walk's count, after the checks of the used count.
 -- Each arm names what the walk told.
 use native.Mathlib.Omega.{arith}
-use mathlib.Core.Path.{_≡_, ap, sym, _∙_}
+use mathlib.Core.Path.{ap, sym, _∙_}
 use lib.ListN.{length-take}
 use Rattle.definitions.proofs.Logs.{past-buffer, past-limit}
 use Rattle.kept.specs.Kept.{usedOf, toldBy}

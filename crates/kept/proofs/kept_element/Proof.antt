@@ -1,6 +1,6 @@
 -- `kept_element` is the part of the log that `kept_get` names.
 -- Each arm names what `kept_get` answered.
-use mathlib.Core.Path.{_≡_, ap, sym, _∙_}
+use mathlib.Core.Path.{ap, sym, _∙_}
 use Rattle.definitions.specs.Basic.{Answer}
 use Rattle.kept.specs.Kept.{gotAs, partOf}
 use borrow.Author.Needs.{needs}

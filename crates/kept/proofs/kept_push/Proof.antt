@@ -2,9 +2,9 @@
 -- What the walk over the used octets told decides 11; the numbers compared are the definition's.
 use Prim.Native.Nat.{_≤_}
 use native.Mathlib.Omega.{arith}
-use mathlib.Core.Path.{_≡_, ap, sym, _∙_}
+use mathlib.Core.Path.{ap, sym, _∙_}
 use mathlib.Core.List.{_∷_}
-use lib.ListN.{length, length-take, length-drop}
+use lib.ListN.{length-take, length-drop}
 use Rattle.definitions.specs.Logs.{keptEntry}
 use Rattle.definitions.proofs.Logs.{past-buffer, past-limit, count-short}
 use Rattle.definitions.proofs.Lists.{lent-over}

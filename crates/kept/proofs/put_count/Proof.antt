@@ -1,8 +1,8 @@
 -- `put_count` stores a count's octets at the front: each size has its law.
 -- The room asked for is the count's own length.
-use Prim.Native.Nat.{ℕ, _≤_, _<_}
+use Prim.Native.Nat.{_≤_, _<_}
 use native.Mathlib.Omega.{arith}
-use mathlib.Core.Path.{_≡_, refl}
+use mathlib.Core.Path.{refl}
 use lib.ListN.{length, length-set}
 use Rattle.definitions.proofs.Logs.{leb-one, leb-two, leb-three, leb-some}
 use Rattle.definitions.proofs.Lists.{front-one, front-two, front-three}

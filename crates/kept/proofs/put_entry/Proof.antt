@@ -3,13 +3,13 @@
 use Prim.Native.Nat.{ℕ, suc, _+_, _≤_}
 use native.Mathlib.Omega.{arith}
 use native.Mathlib.Numerals.{add-one}
-use mathlib.Core.Path.{_≡_, ap, sym, _∙_}
-use mathlib.Core.List.{List, _∷_, _++_}
+use mathlib.Core.Path.{_≡_, ap, _∙_}
+use mathlib.Core.List.{_∷_, _++_}
 use lib.ListN.{length, length-take, length-drop}
 use Rattle.definitions.specs.Basic.{over}
 use Rattle.definitions.specs.Logs.{leb128, keptEntry}
 use Rattle.definitions.proofs.Logs.{entry-length}
-use Rattle.definitions.proofs.Lists.{put-behind, length-over}
+use Rattle.definitions.proofs.Lists.{put-behind}
 use borrow.Author.Needs.{needs}
 use Rattle.kept.proofs.put_entry.Statement.{statement}
 use Rattle.kept.proofs.put_entry.Tie as tie

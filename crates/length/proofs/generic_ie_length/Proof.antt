@@ -1,6 +1,6 @@
 -- `generic_ie_length` is the unknown rule: no octet, one octet alone, or by a length field.
 -- The class of the first octet settles the first test, `long_or_short` the second.
-use Prim.Native.Nat.{ℕ, _≤_, _<_}
+use Prim.Native.Nat.{ℕ, _<_}
 use mathlib.Core.Path.{_≡_, ap, sym, _∙_}
 use native.Mathlib.Omega.{arith}
 use lib.ListN.{getD}

@@ -1,6 +1,6 @@
 -- `tlve_length` is the length by a field of two octets: the element length fact at this width.
 -- The number read is the field's; the comparison with the octets left is the definition's.
-use mathlib.Core.Path.{_≡_, ap, sym, _∙_}
+use mathlib.Core.Path.{ap, sym, _∙_}
 use native.Mathlib.Omega.{arith}
 use Rattle.definitions.specs.Length.{whole, stated}
 use Rattle.definitions.proofs.Length.{length-there, length-short, field-short}

@@ -1,8 +1,8 @@
 -- `nas_check_mandatory_table` returns the answer of the check.
 -- One call and one conversion: the answer of the call is that of the definition.
 use mathlib.Core.Path.{ap}
-use Rattle.nas.specs.Says.{checkAnswer}
-use Rattle.nas.proofs.Laws.{said-by}
+use Rattle.answers.specs.Says.{checkAnswer}
+use Rattle.answers.proofs.Laws.{said-by}
 use borrow.Author.Needs.{needs}
 use Rattle.nas.proofs.nas_check_mandatory_table.Statement.{statement}
 use Rattle.nas.proofs.nas_check_mandatory_table.Tie as tie

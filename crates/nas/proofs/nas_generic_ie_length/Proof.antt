@@ -2,8 +2,8 @@
 -- One call and one conversion: the answer of the call is that of the definition.
 use mathlib.Core.Path.{ap, _∙_}
 use Rattle.definitions.specs.Length.{unknownLength}
-use Rattle.nas.specs.Says.{lengthAs, lengthAnswer}
-use Rattle.nas.proofs.Laws.{said-by, length-back}
+use Rattle.answers.specs.Says.{lengthAs, lengthAnswer}
+use Rattle.answers.proofs.Laws.{said-by, length-back}
 use borrow.Author.Needs.{needs}
 use Rattle.nas.proofs.nas_generic_ie_length.Statement.{statement}
 use Rattle.nas.proofs.nas_generic_ie_length.Tie as tie
@@ -15,7 +15,7 @@ length-said-requires : tie.Need-length-said-requires
 length-said-requires c κs = search needs
 
 returns : tie.Need-returns
-returns c = said-by (ap lengthAnswer (ap lengthAs (c .before .before .generic-ie-length .ensures) ∙ length-back (unknownLength (c .before .before .before .before .args .start) (c .before .before .before .before .args .octets .now)))) (c .length-said .ensures)
+returns c = said-by (ap lengthAnswer (ap lengthAs (c .before .before .generic-ie-length .ensures) ∙ length-back (unknownLength (c .before .before .before .before .args .tlve-start) (c .before .before .before .before .args .octets .now)))) (c .length-said .ensures)
 
 pub nas-generic-ie-length-spec : {M : Type 1} → statement M
 nas-generic-ie-length-spec =

@@ -1,6 +1,6 @@
 -- `nas_kept_count` returns how many elements a kept log holds.
 -- One call and one conversion: the answer of the call is that of the definition.
-use Rattle.nas.proofs.Laws.{said-by}
+use Rattle.answers.proofs.Laws.{said-by}
 use borrow.Author.Needs.{needs}
 use Rattle.nas.proofs.nas_kept_count.Statement.{statement}
 use Rattle.nas.proofs.nas_kept_count.Tie as tie

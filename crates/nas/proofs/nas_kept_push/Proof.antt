@@ -1,6 +1,6 @@
 -- `nas_kept_push` returns the answer of a push.
 -- One call and one conversion: the answer of the call is that of the definition.
-use Rattle.nas.proofs.Laws.{said-by}
+use Rattle.answers.proofs.Laws.{said-by}
 use borrow.Author.Needs.{needs}
 use Rattle.nas.proofs.nas_kept_push.Statement.{statement}
 use Rattle.nas.proofs.nas_kept_push.Tie as tie

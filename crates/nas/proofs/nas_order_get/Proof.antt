@@ -1,6 +1,6 @@
 -- `nas_order_get` returns an entry of an order log.
 -- One call and one conversion: the answer of the call is that of the definition.
-use Rattle.nas.proofs.Laws.{said-by}
+use Rattle.answers.proofs.Laws.{said-by}
 use borrow.Author.Needs.{needs}
 use Rattle.nas.proofs.nas_order_get.Statement.{statement}
 use Rattle.nas.proofs.nas_order_get.Tie as tie

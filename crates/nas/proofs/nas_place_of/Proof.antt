@@ -1,8 +1,8 @@
 -- `nas_place_of` returns what an index says of an IEI.
 -- One call and one conversion: the answer of the call is that of the definition.
 use mathlib.Core.Path.{ap}
-use Rattle.nas.specs.Says.{placeAnswer}
-use Rattle.nas.proofs.Laws.{said-by}
+use Rattle.answers.specs.Says.{placeAnswer}
+use Rattle.answers.proofs.Laws.{said-by}
 use borrow.Author.Needs.{needs}
 use Rattle.nas.proofs.nas_place_of.Statement.{statement}
 use Rattle.nas.proofs.nas_place_of.Tie as tie

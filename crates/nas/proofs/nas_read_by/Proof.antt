@@ -1,6 +1,6 @@
 -- `nas_read_by` returns the answer of a reading, with what that leaves in lent memory.
 -- One call and one conversion: the answer of the call is that of the definition.
-use Rattle.nas.proofs.Laws.{said-by}
+use Rattle.answers.proofs.Laws.{said-by}
 use borrow.Author.Needs.{needs}
 use Rattle.nas.proofs.nas_read_by.Statement.{statement}
 use Rattle.nas.proofs.nas_read_by.Tie as tie

@@ -1,6 +1,6 @@
 -- `nas_show` returns the value of a place.
 -- One call and one conversion: the answer of the call is that of the definition.
-use Rattle.nas.proofs.Laws.{said-by}
+use Rattle.answers.proofs.Laws.{said-by}
 use borrow.Author.Needs.{needs}
 use Rattle.nas.proofs.nas_show.Statement.{statement}
 use Rattle.nas.proofs.nas_show.Tie as tie

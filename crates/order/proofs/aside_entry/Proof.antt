@@ -1,6 +1,6 @@
 -- `aside_entry` is the entry of an octet.
 -- Each arm names the octet.
-use mathlib.Core.Path.{_≡_, ap, sym}
+use mathlib.Core.Path.{ap, sym}
 use native.Mathlib.Omega.{arith}
 use Rattle.definitions.proofs.Orders.{asideBy, aside-late}
 use Rattle.order.proofs.aside_entry.Statement.{statement}

@@ -1,6 +1,6 @@
 -- `entry_len` is the length of an entry's octets.
 -- Each arm names the entry's case.
-use mathlib.Core.Path.{_≡_, ap, sym, _∙_}
+use mathlib.Core.Path.{ap, sym, _∙_}
 use lib.ListN.{length}
 use Rattle.definitions.specs.Logs.{orderEntry}
 use Rattle.order.specs.Order.{placedAs}

@@ -1,7 +1,7 @@
 -- `front_at` is the entry at the front: each way out has its law, whose facts are the branches that led there.
 -- An octet from 1 to 4 is an entry by itself.
-use mathlib.Core.Path.{_≡_, refl, ap, sym, _∙_}
-use mathlib.Core.Option.{Option, some}
+use mathlib.Core.Path.{refl, ap, sym, _∙_}
+use mathlib.Core.Option.{some}
 use native.Mathlib.Omega.{arith}
 use Rattle.definitions.proofs.Orders.{front-empty, front-alone, front-known, front-over, front-aside}
 use borrow.Author.Needs.{needs}

@@ -1,9 +1,8 @@
 -- `order_get` is what a whole walk told of the wanted entry, after the checks of the used count.
 -- Each arm names what the walk told.
 use native.Mathlib.Omega.{arith}
-use mathlib.Core.Path.{_≡_, ap, sym, _∙_}
-use mathlib.Core.List.{List}
-use mathlib.Core.Option.{Option, some}
+use mathlib.Core.Path.{ap, sym, _∙_}
+use mathlib.Core.Option.{some}
 use lib.ListN.{length-take}
 use Rattle.definitions.proofs.Logs.{past-buffer, past-limit}
 use Rattle.kept.specs.Kept.{usedOf}

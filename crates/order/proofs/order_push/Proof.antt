@@ -1,8 +1,8 @@
 -- `order_push` takes document 01's checks in their order, each with its law, and then lends the rest of the log for the entry.
 -- What the walk over the used octets told decides 11; the numbers compared are the definition's.
-use Prim.Native.Nat.{ℕ, _-_, _≤_}
+use Prim.Native.Nat.{_-_}
 use native.Mathlib.Omega.{arith}
-use mathlib.Core.Path.{_≡_, ap, sym, _∙_}
+use mathlib.Core.Path.{ap, sym, _∙_}
 use lib.ListN.{length, take, drop, length-take, length-drop}
 use Rattle.definitions.specs.Logs.{orderEntry}
 use Rattle.definitions.proofs.LogLaws.{order-room}

@@ -1,15 +1,14 @@
 -- `order_step` passes the entry at the front of what is left.
 -- The entry is the definition's, and lies within what is left, so no sum wraps.
-use Prim.Native.Nat.{ℕ, _+_, _≤_}
+use Prim.Native.Nat.{ℕ, _+_}
 use mathlib.Core.Path.{_≡_, refl, ap, sym, _∙_}
-use mathlib.Core.Option.{Option, none, some}
+use mathlib.Core.Option.{some}
 use native.Mathlib.Omega.{arith}
 use borrow.Author.Tests.{eq-eqb, ne-eqb}
-use lib.ListN.{length, drop, length-drop}
-use Rattle.definitions.specs.Logs.{Placed as DefPlaced, orderEntry}
+use lib.ListN.{drop, length-drop}
 use Rattle.definitions.proofs.Orders.{orderFront, Fits, front-fits}
 use Rattle.definitions.proofs.Lists.{to-end}
-use Rattle.order.specs.Order.{placedAs, frontAs, wantedAs, Stepped}
+use Rattle.order.specs.Order.{placedAs, frontAs, wantedAs}
 use borrow.Author.Needs.{needs}
 use Rattle.order.proofs.order_step.Statement.{statement}
 use Rattle.order.proofs.order_step.Tie as tie

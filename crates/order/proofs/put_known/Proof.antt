@@ -1,7 +1,6 @@
 -- `put_known` stores two octets if there is room for both.
 -- The test is the definition's.
 use native.Mathlib.Omega.{arith}
-use mathlib.Core.Path.{_≡_, refl}
 use borrow.Author.Tests.{le-leb, lt-leb}
 use lib.ListN.{length}
 use Rattle.kept.specs.Kept.{ifRoom}

@@ -1,7 +1,7 @@
 -- `put_placed` stores the octets of an entry.
 -- Each arm names the entry's case; one that is set aside has one octet.
 use Prim.Native.Nat.{ℕ}
-use mathlib.Core.Path.{_≡_, ap, sym, _∙_}
+use mathlib.Core.Path.{ap, sym, _∙_}
 use mathlib.Core.List.{List, [], _∷_}
 use Rattle.definitions.specs.Logs.{orderEntry}
 use Rattle.kept.specs.Kept.{ifRoom}

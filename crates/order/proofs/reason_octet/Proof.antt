@@ -1,6 +1,6 @@
 -- `reason_octet` is the octet of a reason.
 -- Each arm names the reason's case.
-use mathlib.Core.Path.{_≡_, ap, sym}
+use mathlib.Core.Path.{ap, sym}
 use lib.ListN.{getD}
 use Rattle.definitions.specs.Logs.{orderEntry, ignored}
 use Rattle.order.specs.Order.{reasonAs}

@@ -2,7 +2,6 @@
 -- The measure is what is left of the log; each entry takes an octet or more.
 use Prim.Native.Nat.{_-_}
 use native.Mathlib.Omega.{arith}
-use mathlib.Core.Path.{sym, _∙_}
 use lib.ListN.{length}
 use Rattle.order.specs.Order.{toldBy}
 use Rattle.order.proofs.OrderWalks.{Walking, begun, ended, stepped, stopped}

@@ -1,7 +1,7 @@
 -- `seen_has` is the bit of the half that the place is in.
 -- Past both there is none.
 use native.Mathlib.Omega.{arith}
-use mathlib.Core.Path.{_≡_, ap, sym, _∙_}
+use mathlib.Core.Path.{sym, _∙_}
 use Rattle.seen.proofs.Sets.{bit-low, bit-high, bit-past}
 use borrow.Author.Needs.{needs}
 use Rattle.seen.proofs.seen_has.Statement.{statement}

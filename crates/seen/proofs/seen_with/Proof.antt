@@ -1,9 +1,6 @@
 -- `seen_with` adds the bit in the half that the place is in; the other half is as it was.
 -- Each half is read off the sum of both.
-use Prim.Native.Nat.{ℕ}
 use native.Mathlib.Omega.{arith}
-use mathlib.Core.Path.{_≡_, ap, _∙_}
-use Rattle.seen.specs.declared.Seen.{Seen}
 use Rattle.seen.proofs.Sets.{with-low, with-high, with-past}
 use borrow.Author.Needs.{needs}
 use Rattle.seen.proofs.seen_with.Statement.{statement}

@@ -1,6 +1,5 @@
 -- `judge` is the definition's verdict.
 -- Each way out has the tests that decide it.
-use mathlib.Core.Path.{_≡_}
 use Rattle.definitions.specs.Elements.{judged}
 use Rattle.elements.proofs.element.judge.Statement.{statement}
 use Rattle.elements.proofs.element.judge.Tie as tie

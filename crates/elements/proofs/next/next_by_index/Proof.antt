@@ -1,7 +1,7 @@
 -- `next_by_index` is the step within the limit.
 -- Each arm names what the step answered.
 use native.Mathlib.Omega.{arith}
-use mathlib.Core.Path.{_≡_, ap, sym, _∙_}
+use mathlib.Core.Path.{ap, sym, _∙_}
 use borrow.Author.Tests.{lt-ltb, le-ltb}
 use lib.ListN.{length}
 use Rattle.elements.specs.Nexts.{nextAs, nextFrom}

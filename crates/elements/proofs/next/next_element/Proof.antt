@@ -2,7 +2,7 @@
 -- The rest is `next_by_index`.
 use Prim.Native.Nat.{ℕ}
 use mathlib.Core.Path.{_≡_, ap, sym, _∙_}
-use mathlib.Core.Option.{Option, none, some}
+use mathlib.Core.Option.{Option, none}
 use Rattle.definitions.specs.Rows.{rowsOf, firstBad}
 use Rattle.rows.specs.Answers.{checkedAs}
 use Rattle.rows.proofs.Laws.{passed-index}

@@ -4,7 +4,7 @@ use Prim.Native.Nat.{ℕ}
 use native.Mathlib.Omega.{arith}
 use mathlib.Core.Path.{ap, sym}
 use Rattle.nas.specs.Entries.{placedBy}
-use Rattle.nas.proofs.Laws.{no-entry}
+use Rattle.nas.proofs.NoEntry.{no-entry}
 use Rattle.nas.proofs.entries.entry_of.Statement.{statement}
 use Rattle.nas.proofs.entries.entry_of.Tie as tie
 

@@ -1,8 +1,7 @@
 -- `decode_by_index` takes document 01's checks in their order: what is measured decides which refuses, before anything is written.
 -- Where none does, what is filled is the definition's.
-use Prim.Native.Nat.{_≤_, _*_}
 use native.Mathlib.Omega.{arith}
-use mathlib.Core.Path.{_≡_, ap, sym, _∙_}
+use mathlib.Core.Path.{sym, _∙_}
 use Rattle.definitions.specs.Rows.{rowsOf}
 use Rattle.definitions.proofs.TableLaws.{few-places}
 use Rattle.reading.proofs.Decoding.{long, no-rows, cut-short, no-kept, no-order, ready, done}

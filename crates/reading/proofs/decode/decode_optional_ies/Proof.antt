@@ -1,7 +1,7 @@
 -- `decode_optional_ies` checks the table first; one that passes has its index.
 -- The rest is `decode_by_index`.
 use mathlib.Core.Path.{_≡_, refl, ap, sym, _∙_}
-use mathlib.Core.Option.{Option, none, some}
+use mathlib.Core.Option.{none}
 use Rattle.definitions.specs.Rows.{rowsOf, firstBad}
 use Rattle.definitions.proofs.Readings.{read-bad}
 use Rattle.rows.specs.Answers.{checkedAs}

@@ -1,6 +1,6 @@
 -- `decode_optional_ies_by` reads by the table that the number names.
 -- Each arm names it; any other number has no table.
-use mathlib.Core.Path.{_≡_, refl, ap, _∙_}
+use mathlib.Core.Path.{refl, ap}
 use Rattle.definitions.specs.Tables.{tableOf}
 use Rattle.reading.specs.Decodes.{lentOf}
 use Rattle.reading.proofs.Decoding.{by-number, by-none, refused, moved}

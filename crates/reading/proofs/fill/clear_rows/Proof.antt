@@ -2,8 +2,8 @@
 -- The measure is what is left to store.
 use Prim.Native.Nat.{ℕ, _≤_, _-_}
 use native.Mathlib.Omega.{arith}
-use mathlib.Core.Path.{_≡_, refl, ap, sym, _∙_}
-use mathlib.Core.List.{List, _++_}
+use mathlib.Core.Path.{_≡_, refl, _∙_}
+use mathlib.Core.List.{_++_}
 use lib.ListN.{length, take, drop, replicate, length-set, length-replicate}
 use lib.Seq.{take-all}
 use Rattle.definitions.proofs.Lists.{zero-step, over-take}

@@ -1,11 +1,8 @@
 -- `aside` adds the octets of a kept entry and one entry of the order log.
 -- A count takes at most three octets, so no sum wraps.
-use Prim.Native.Nat.{ℕ, _+_, _≤_}
 use native.Mathlib.Omega.{arith}
-use mathlib.Core.Path.{_≡_, ap}
 use Rattle.definitions.proofs.Logs.{count-short}
 use Rattle.reading.specs.Measures.{withAside}
-use Rattle.reading.specs.declared.measure.Tally.{Tally}
 use borrow.Author.Needs.{needs}
 use Rattle.reading.proofs.measure.aside.Statement.{statement}
 use Rattle.reading.proofs.measure.aside.Tie as tie

@@ -1,11 +1,8 @@
 -- `with_element` counts an element by how it came.
 -- Each arm names it.
-use Prim.Native.Nat.{ℕ}
-use mathlib.Core.Path.{_≡_, ap, sym, _∙_}
+use mathlib.Core.Path.{ap, sym, _∙_}
 use Rattle.definitions.specs.Rows.{rowsOf}
-use Rattle.order.specs.declared.Placed.{Placed}
 use Rattle.reading.specs.Measures.{tallied, talliedBy}
-use Rattle.reading.specs.declared.measure.Tally.{Tally}
 use borrow.Author.Needs.{needs}
 use Rattle.reading.proofs.measure.with_element.Statement.{statement}
 use Rattle.reading.proofs.measure.with_element.Tie as tie

@@ -1,10 +1,9 @@
 -- `does_fit` is the rule of a form.
 -- Each arm names the form.
-use Prim.Native.Nat.{ℕ}
 use native.Mathlib.Omega.{arith}
-use mathlib.Core.Path.{_≡_, ap, sym, _∙_}
+use mathlib.Core.Path.{ap, sym, _∙_}
 use borrow.Author.Tests.{eq-eqb, ne-eqb}
-use lib.ListN.{length, getD}
+use lib.ListN.{length}
 use Rattle.definitions.specs.Values.{fits}
 use Rattle.rows.specs.Forms.{formAs}
 use Rattle.rows.specs.declared.columns.Form.{Form}

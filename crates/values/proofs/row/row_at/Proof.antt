@@ -2,7 +2,6 @@
 -- Each is the definition's.
 use Prim.Native.Nat.{_+_, _*_, _≤_}
 use native.Mathlib.Omega.{arith}
-use mathlib.Core.Path.{_≡_}
 use lib.ListN.{length, List·getD-eq-default}
 use Rattle.definitions.specs.Values.{valueAt}
 use borrow.Author.Needs.{needs}

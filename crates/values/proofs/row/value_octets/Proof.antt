@@ -1,9 +1,7 @@
 -- `value_octets` is the part that the row names.
 -- Each branch names the source.
-use Prim.Native.Nat.{ℕ}
 use native.Mathlib.Omega.{arith}
-use mathlib.Core.Path.{_≡_, ap, sym, _∙_}
-use lib.ListN.{take, drop}
+use mathlib.Core.Path.{sym, _∙_}
 use Rattle.values.specs.Rows.{sourcesOf, valueOf}
 use Rattle.values.proofs.Showing.{octets-absent, octets-received, octets-set}
 use borrow.Author.Needs.{needs}

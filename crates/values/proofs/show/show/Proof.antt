@@ -1,8 +1,6 @@
 -- `show` checks the table first.
 -- The rest is `show_checked`.
-use mathlib.Core.Path.{_≡_, ap, sym, _∙_}
-use mathlib.Core.Option.{Option, none, some}
-use Rattle.definitions.specs.Rows.{rowsOf, firstBad}
+use mathlib.Core.Path.{ap, sym, _∙_}
 use Rattle.rows.specs.Answers.{checkedAs}
 use Rattle.kept.specs.Kept.{usedOf}
 use Rattle.values.proofs.Showing.{show-table}

@@ -5,7 +5,7 @@ use native.Mathlib.Omega.{arith}
 use mathlib.Core.Path.{_≡_, ap, sym, _∙_}
 use borrow.Author.Tests.{not-true, not-false}
 use lib.ListN.{length, List·getD-eq-default}
-use Rattle.definitions.specs.Basic.{Answer, answer}
+use Rattle.definitions.specs.Basic.{answer}
 use Rattle.definitions.specs.Values.{octetsAt, fits, shownBy}
 use Rattle.rows.specs.Forms.{formAs}
 use Rattle.rows.specs.declared.columns.Form.{Form}

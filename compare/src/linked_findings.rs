@@ -1,0 +1,47 @@
+//! Our side's findings: the C interface of libnas.a.
+
+use crate::interface::{Findings, Used, Values};
+use crate::linked::Linked;
+
+unsafe extern "C" {
+    fn nas_findings(
+        table: *const u32,
+        table_len: usize,
+        kept: *const u8,
+        kept_len: usize,
+        kept_used: usize,
+        order: *const u8,
+        order_len: usize,
+        order_used: usize,
+        findings: *mut u32,
+        findings_len: usize,
+        values: *mut Values,
+    ) -> u32;
+}
+
+impl Findings for Linked {
+    fn findings(
+        &self,
+        table: &[u32],
+        kept: Used<'_>,
+        order: Used<'_>,
+        findings: &mut [u32],
+        values: &mut Values,
+    ) -> u32 {
+        unsafe {
+            nas_findings(
+                table.as_ptr(),
+                table.len(),
+                kept.octets.as_ptr(),
+                kept.octets.len(),
+                kept.used,
+                order.octets.as_ptr(),
+                order.octets.len(),
+                order.used,
+                findings.as_mut_ptr(),
+                findings.len(),
+                values,
+            )
+        }
+    }
+}

@@ -1,0 +1,132 @@
+//! The oracle's mandatory rows: the Rust's `decode_mandatory_ie`, row by row, with closures that carry out the rows of document
+//! 01, and the macro's arms for half octets.
+
+use crate::common::{self, IeFault, NasError, Reader, Reading, nas_message};
+use crate::judge_mandatory::{FilledRows, RowsRead};
+use crate::oracle_writing::{Framed, Half};
+use crate::rows::{MandatoryForm, MandatoryRow};
+
+/// The field of each row. The Rust names a fault by its field.
+const FIELDS: [&str; 32] = [
+    "0", "1", "2", "3", "4", "5", "6", "7", "8", "9", "10", "11", "12", "13", "14", "15", "16", "17", "18", "19", "20",
+    "21", "22", "23", "24", "25", "26", "27", "28", "29", "30", "31",
+];
+
+impl Half {
+    fn new(value: u8) -> Self {
+        Self { value }
+    }
+}
+
+/// Where a value stands in its part, and the octet by which it is judged.
+struct Value {
+    start: usize,
+    length: usize,
+    first: Option<u8>,
+}
+
+fn decode(form: MandatoryForm, buffer: &mut &[u8], part: usize) -> common::Result<Value> {
+    let at = |left: usize| part - left;
+    let half = |start: usize, half: Half| Value { start, length: 1, first: Some(half.value) };
+    let length = match form {
+        MandatoryForm::LowHalf => {
+            return Ok(half(at(buffer.len()), nas_message!(@decode_mand buffer, Half, low_half_first)));
+        }
+        MandatoryForm::HighHalf => {
+            return Ok(half(at(buffer.len()), nas_message!(@decode_mand buffer, Half, high_half_last)));
+        }
+        MandatoryForm::Fixed(size) => size,
+        MandatoryForm::Lv => usize::from(buffer.take(1)?[0]),
+        MandatoryForm::LvE => usize::from(buffer.take(2)?.get_u16()),
+    };
+    let start = at(buffer.len());
+    let value = buffer.take(length)?;
+    Ok(Value { start, length, first: value.first().copied() })
+}
+
+/// Document 01's number of a fault, and its row.
+fn number(error: &NasError) -> (u32, usize) {
+    let NasError::InvalidMandatoryIe { ie, fault, .. } = error else {
+        unreachable!("decode_mandatory_ie has no other error")
+    };
+    let number = match fault {
+        IeFault::Missing => 6,
+        IeFault::Truncated => 7,
+        IeFault::TooShort => 8,
+        IeFault::Syntax => 9,
+    };
+    (number, FIELDS.iter().position(|field| *field == ie.field()).unwrap_or(usize::MAX))
+}
+
+/// `decode_mandatory_ie` over the rows of a table.
+pub fn read_rows(rows: &[MandatoryRow], part: &[u8], lenient: bool) -> RowsRead {
+    let mut faults = Vec::new();
+    let mut reading = if lenient { Reading::keeping(&mut faults) } else { Reading::strict() };
+    let mut done = RowsRead::default();
+    let mut left = part;
+    for (row, field) in rows.iter().zip(FIELDS) {
+        let decoded = common::decode_mandatory_ie(
+            &mut left,
+            field,
+            row.least,
+            |buffer| decode(row.form, buffer, part.len()),
+            |value: &Value| value.first.is_none_or(|first| row.set >> (first & 7) & 1 == 1),
+            |_| None,
+            &mut reading,
+        );
+        match decoded {
+            Ok(value) => done.rows.extend([1, value.start as u32, value.length as u32]),
+            Err(error) => {
+                done.refused = Some(number(&error));
+                break;
+            }
+        }
+        done.read = part.len() - left.len();
+    }
+    done.notes = faults.iter().map(number).flat_map(|(number, row)| [row as u32, number]).collect();
+    done
+}
+
+/// A row's value, as the macro's arms name it.
+struct Field<'a> {
+    half: Half,
+    framed: Framed<'a>,
+}
+
+fn encode(form: MandatoryForm, received: bool, octets: &[u8], buffer: &mut Vec<u8>) -> common::Result<()> {
+    let field = |half: u8, width: usize| Field { half: Half::new(half), framed: Framed { width, octets } };
+    match form {
+        MandatoryForm::LowHalf => {
+            let field = field(if received { octets[0] & 0x0f } else { octets[0] }, 0);
+            nas_message!(@encode_mand buffer, field, half, low_half_first);
+        }
+        MandatoryForm::HighHalf => {
+            let field = field(if received { octets[0] >> 4 } else { octets[0] }, 0);
+            nas_message!(@encode_mand buffer, field, half, high_half_last);
+        }
+        MandatoryForm::Fixed(_) => {
+            let field = field(0, 0);
+            nas_message!(@encode_mand buffer, field, framed);
+        }
+        MandatoryForm::Lv => {
+            let field = field(0, 1);
+            nas_message!(@encode_mand buffer, field, framed);
+        }
+        MandatoryForm::LvE => {
+            let field = field(0, 2);
+            nas_message!(@encode_mand buffer, field, framed);
+        }
+    }
+    Ok(())
+}
+
+/// The rows by the macro's arms.
+pub fn write_rows(filled: &FilledRows<'_>) -> Vec<u8> {
+    let mut buffer = Vec::new();
+    for (k, row) in filled.table.iter().enumerate() {
+        let (place, octets) = filled.value(k);
+        let written = encode(row.form, place.source == 1, octets, &mut buffer);
+        assert!(written.is_ok(), "values that fit their forms are written");
+    }
+    buffer
+}

@@ -1,0 +1,27 @@
+-- `length_said` gives the number and the values of a length.
+-- Each arm names the case; its values are put by the call.
+use borrow.Author.Needs.{needs}
+use Rattle.answers.proofs.length_said.Statement.{statement}
+use Rattle.answers.proofs.length_said.Tie as tie
+
+enum-known-length : tie.Need-enum-known-length
+enum-known-length c = search needs
+
+one-requires : tie.Need-one-requires
+one-requires c κs = search needs
+
+enum-told : tie.Need-enum-told
+enum-told c = search needs
+
+none-requires : tie.Need-none-requires
+none-requires c κs = search needs
+
+returns : tie.Need-returns
+returns c = rw (c .before .before .before .length .given .1) (c .one .ensures)
+
+returns-2 : tie.Need-returns-2
+returns-2 c = rw (c .before .before .enum-told .given .1) (c .none .ensures)
+
+pub length-said-spec : {M : Type 1} → statement M
+length-said-spec =
+    tie.close (tie.spec enum-known-length one-requires enum-told none-requires returns returns-2)

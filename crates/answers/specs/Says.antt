@@ -1,0 +1,55 @@
+-- What a call of the C interface returns, and the values that it puts.
+use Prim.Native.Nat.{ℕ, suc}
+use mathlib.Core.Path.{_≡_}
+use mathlib.Core.List.{List, [], _∷_}
+use mathlib.Core.Option.{Option, none, some}
+use lib.ListN.{length, set}
+use Rattle.definitions.specs.Basic.{Answer, answer}
+use Rattle.definitions.specs.Reading.{Read}
+use Rattle.length.specs.declared.Length.{Length}
+
+-- values stored one after the other from a place on; every other place is as it was. The five lent places are known by their
+-- number alone, which no contract tells as a length, so this is said by stores; with as many places as values it is `over`
+-- of the definitions (proofs/Laws.antt, `put-over`)
+abbrev pub putFrom : ℕ → List ℕ → List ℕ → List ℕ
+putFrom k [] places = places
+putFrom k (v ∷ vs) places = putFrom (suc k) vs (set places k v)
+
+abbrev pub put : List ℕ → List ℕ → List ℕ
+put vs places = putFrom 0 vs places
+
+-- how many values an answer has, then the values
+abbrev pub told : Answer → List ℕ
+told a = length (a .values) ∷ a .values
+
+-- the number of an answer is returned; how many values it has and the values stand in the first places, and the others are as
+-- they were
+pub record Says (a : Answer) (number : ℕ) (before after : List ℕ) : Type 0 where
+  pub numbered : number ≡ a .number
+  pub valued : after ≡ put (told a) before
+
+-- an answer, and a lent log afterwards, are those of a reading: number and values, rows and both logs
+pub record ReadSays (r : Read) (number : ℕ) (before after rows kept order : List ℕ) : Type 0 where
+  pub says : Says (r .said) number before after
+  pub rows-are : rows ≡ r .rows
+  pub kept-is : kept ≡ r .kept
+  pub order-is : order ≡ r .order
+
+-- the answer of a table check: passed, or refusal 4 with the first bad row
+abbrev pub checkAnswer : Option ℕ → Answer
+checkAnswer none = answer 0 []
+checkAnswer (some row) = answer 4 (row ∷ [])
+
+-- the place of an IEI, or no value
+abbrev pub placeAnswer : Option ℕ → Answer
+placeAnswer none = answer 0 []
+placeAnswer (some place) = answer 0 (place ∷ [])
+
+-- the length of an unknown element, or cut short, with no value
+abbrev pub lengthAnswer : Option ℕ → Answer
+lengthAnswer none = answer 1 []
+lengthAnswer (some n) = answer 0 (n ∷ [])
+
+abbrev pub lengthAs : Length → Option ℕ
+lengthAs (Length.Octets n) = some n
+lengthAs Length.CutShort = none
