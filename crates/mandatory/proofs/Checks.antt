@@ -12,12 +12,12 @@ use lib.Dec.{eqb}
 use Rattle.definitions.specs.Basic.{Answer, answer, refusal, mostOctets, over}
 use Rattle.definitions.specs.Mandatory.{MandatoryRow, mandatoryRowsOf, firstBadMandatory, Rowed, rowed, RowsRead, mandatoryReading, mandatoryReadingBy}
 use Rattle.definitions.specs.Tables.{mandatoryTableOf}
-use Rattle.mandatory.specs.Notes.{noNotes, notesAs}
+use Rattle.mandatory.specs.Notes.{noNotes}
 use Rattle.mandatory.specs.Reads.{numberOf, valuesOf, readAs, Judges, Reads, judgedFrom, rowsFrom}
 use Rattle.mandatory.specs.declared.decode.Mandated.{Mandated}
 use Rattle.mandatory.specs.declared.decode.MandatoryRead.{MandatoryRead}
 use Rattle.mandatory.proofs.Noting.{tidy-none, notes-none}
-use Rattle.mandatory.proofs.Rowing.{Refusal, saidBy, Same, same}
+use Rattle.mandatory.proofs.Rowing.{saidBy, Same, same}
 
 -- an answer without notes
 pub said-bare : (a : Mandated) → readAs (record { answer = a; notes = noNotes }) ≡ answer (numberOf a) (valuesOf a)

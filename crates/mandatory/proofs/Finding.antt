@@ -1,18 +1,18 @@
 -- What a value takes lies within the octets.
 -- By the form.
-use Prim.Native.Nat.{ℕ, _+_, _≤_, _<_}
+use Prim.Native.Nat.{ℕ, _+_, _≤_}
 use native.Mathlib.Omega.{arith}
 use mathlib.Core.Path.{_≡_, refl}
 use mathlib.Core.List.{List, [], _∷_}
 use mathlib.Core.Bool.{Bool, true, false}
 use mathlib.Core.Option.{Option, none, some}
-use borrow.Author.Tests.{lt-ltb, le-ltb, leb-true}
+use borrow.Author.Tests.{leb-true}
 use lib.ListN.{length, take, drop}
 use lib.Dec.{leb}
-use Rattle.definitions.specs.Basic.{pick, receivable}
+use Rattle.definitions.specs.Basic.{pick}
 use Rattle.definitions.specs.Octets.{numberAt}
-use Rattle.definitions.specs.Mandatory.{MandatoryRow, MandatoryForm, lowHalf, highHalf, fixedV, lv, lv-e, mandatoryForm, Found as DefFound, missing, truncated, value, behind, counted, foundBy, faultOf}
-use Rattle.mandatory.specs.Founds.{faultAs, foundAs}
+use Rattle.definitions.specs.Mandatory.{MandatoryRow, MandatoryForm, lowHalf, highHalf, fixedV, lv, lv-e, mandatoryForm, Found as DefFound, missing, truncated, value, behind, counted, foundBy}
+use Rattle.mandatory.specs.Founds.{foundAs}
 use Rattle.mandatory.specs.declared.ie.Fault.{Fault}
 use Rattle.mandatory.specs.declared.ie.Found.{Found}
 

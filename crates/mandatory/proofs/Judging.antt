@@ -3,8 +3,8 @@
 use Prim.Native.Nat.{ℕ, suc, _+_, _≤_, _<_}
 use native.Mathlib.Omega.{arith}
 use native.Mathlib.Numerals.{add-one}
-use mathlib.Core.Path.{_≡_, refl, ap, sym, _∙_}
-use mathlib.Core.List.{List, [], _∷_, _++_}
+use mathlib.Core.Path.{_≡_, refl, ap}
+use mathlib.Core.List.{List, [], _∷_}
 use mathlib.Core.Bool.{Bool, true, false}
 use lib.ListN.{length, drop, drop-of-length-le, length-drop}
 use lib.Seq.{drop-drop}
@@ -19,7 +19,7 @@ use Rattle.mandatory.specs.declared.ie.Found.{Found}
 use Rattle.mandatory.specs.declared.notes.Notes.{Notes}
 use Rattle.mandatory.specs.declared.decode.Mandated.{Mandated}
 use Rattle.mandatory.proofs.Finding.{found-within}
-use Rattle.mandatory.proofs.Noting.{Noted, tidy-none, notes-none, noted}
+use Rattle.mandatory.proofs.Noting.{tidy-none, notes-none, noted}
 
 -- the rows from k on, judged from here on, give what all of them give
 pub record Judging (lenient : Bool) (t : List MandatoryRow) (part : List ℕ) (k at : ℕ) (n : Notes) : Type 0 where

@@ -2,7 +2,7 @@
 -- By induction on the rows, and by what the first one finds.
 use Prim.Native.Nat.{ℕ, suc, _+_, _≤_}
 use native.Mathlib.Omega.{arith}
-use mathlib.Core.Path.{_≡_, refl, ap, sym, _∙_}
+use mathlib.Core.Path.{_≡_, refl, sym, _∙_}
 use mathlib.Core.List.{List, [], _∷_, _++_, append-nil, append-assoc}
 use mathlib.Core.Bool.{Bool, true, false, not}
 use mathlib.Core.Option.{Option, none, some}
@@ -10,7 +10,7 @@ use lib.ListN.{drop}
 use Rattle.definitions.specs.Basic.{pick, Answer, answer}
 use Rattle.definitions.specs.Mandatory.{MandatoryRow, mandatoryForm, Found as DefFound, missing, truncated, value, foundBy, faultOf, Rowed, stopped, noted, rowed}
 use Rattle.definitions.proofs.Mandatories.{by-fault, row-missing, row-truncated, row-value}
-use Rattle.mandatory.specs.Founds.{faultAs, foundAs}
+use Rattle.mandatory.specs.Founds.{faultAs}
 use Rattle.mandatory.specs.Reads.{judgedBy, judgedFrom, rowsBy, rowsFrom}
 use Rattle.mandatory.specs.declared.ie.Found.{Found}
 

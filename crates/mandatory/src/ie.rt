@@ -41,17 +41,17 @@ fn wide16(x: u16) -> usize
     x as usize
 }
 
-// By whether a complete value is under the least length, and whether it is receivable: the first fault that it has.
-fn first_fault(short: bool, receivable: bool) -> Fault
-    ensures { λ r. ⌜ r ≡ faultAs (pick short (some 8) (pick receivable none (some 9))) ⌝ }
+// By whether a complete value is under the least length, and whether it is not receivable: the first fault that it has.
+fn first_fault(short: bool, strange: bool) -> Fault
+    ensures { λ r. ⌜ r ≡ faultAs (pick short (some 8) (pick strange (some 9) none)) ⌝ }
 {
     if short {
         return Fault::TooShort;
     }
-    if receivable {
-        return Fault::Nothing;
+    if strange {
+        return Fault::Syntax;
     }
-    Fault::Syntax
+    Fault::Nothing
 }
 
 // A complete value of a row that consumes so many octets, by the octets that it is judged by.
@@ -60,7 +60,7 @@ fn fault_of(table: &[u32], row: usize, took: usize, value: &[u8]) -> Fault
 {
     let least = mandatory_least_at(table, row);
     let kinds = mandatory_kinds_at(table, row);
-    first_fault(took < least, receivable(kinds, value))
+    first_fault(took < least, !receivable(kinds, value))
 }
 
 // A value of n octets behind h octets.

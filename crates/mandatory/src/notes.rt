@@ -2,7 +2,7 @@
 use crate::ie::Fault;
 ghost use mathlib.Core.Path.{_≡_};
 ghost use Prim.Native.Nat.{_<_};
-ghost use Rattle.mandatory.specs.Notes.{noNotes, withNote, withFault, Tidy};
+ghost use Rattle.mandatory.specs.Notes.{noNotes, withNote, withFault};
 
 // A row and its fault's number, 8 or 9.
 pub struct Note {

@@ -1,14 +1,13 @@
 -- Writing by its checks: what it is at the first that refuses, and where none does.
 -- Each law settles the checks before it, in document 01's order.
 use Prim.Native.Nat.{ℕ, _*_, _≤_, _<_}
-use native.Mathlib.Omega.{arith}
-use mathlib.Core.Path.{_≡_, refl, ap, sym, _∙_}
-use mathlib.Core.List.{List, [], _∷_}
-use mathlib.Core.Bool.{Bool, true, false, not}
+use mathlib.Core.Path.{_≡_, ap, sym}
+use mathlib.Core.List.{List}
+use mathlib.Core.Bool.{true, false, not}
 use mathlib.Core.Option.{none, some}
 use borrow.Author.Tests.{lt-ltb, le-ltb}
 use lib.ListN.{length}
-use Rattle.definitions.specs.Basic.{isNone, answer, refusal, over, Used, content}
+use Rattle.definitions.specs.Basic.{isNone, refusal, over, Used, content}
 use Rattle.definitions.specs.Mandatory.{MandatoryRow, mandatoryRowsOf, firstBadMandatory, rowsWritten, RowsWrote, mandatoryWriting, mandatoryWritingBy}
 use Rattle.definitions.specs.Tables.{mandatoryTableOf}
 use Rattle.definitions.specs.Values.{Octets, badRows, valuesTooLong}

@@ -2,7 +2,7 @@
 -- Each is a regrouping of the front and what is behind it, or the definition's own clause.
 use Prim.Native.Nat.{ℕ, _+_, _-_, _≤_}
 use native.Mathlib.Omega.{arith}
-use mathlib.Core.Path.{_≡_, refl, ap, _∙_}
+use mathlib.Core.Path.{_≡_, refl}
 use mathlib.Core.List.{List, [], _∷_}
 use lib.ListN.{length, take, drop, set, length-take, length-drop}
 use lib.Seq.{take-all}

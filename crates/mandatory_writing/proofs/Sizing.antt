@@ -3,9 +3,9 @@
 use Prim.Native.Nat.{ℕ, zero, suc, _+_, _*_, _≤_, _<_}
 use native.Mathlib.Omega.{arith}
 use native.Mathlib.Numerals.{add-one}
-use mathlib.Core.Path.{_≡_, refl, ap, ap₂, sym, _∙_}
-use mathlib.Core.List.{List, [], _∷_, _++_}
-use lib.ListN.{length, getD, take, drop, length-take, length-drop, length-append, drop-of-length-le}
+use mathlib.Core.Path.{_≡_, refl, ap₂, _∙_}
+use mathlib.Core.List.{List, [], _∷_}
+use lib.ListN.{length, getD, drop, length-take, length-drop, length-append, drop-of-length-le}
 use Rattle.definitions.specs.Mandatory.{MandatoryRow, mandatoryRowAt, mandatoryForm, lowBits, encodedRow, rowsWritten}
 use Rattle.definitions.specs.Values.{Octets, Value, valueAt, sourceOf, octetsAt}
 use Rattle.rows.proofs.Steps.{mandatory-drop}

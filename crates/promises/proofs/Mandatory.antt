@@ -1,6 +1,6 @@
 -- Writing mandatory rows gives back what was read of them. A reading that is done found a value for each row; each of them passes
 -- the checks of writing and is written as it came, one behind the other.
-use Prim.Native.Nat.{ℕ, zero, suc, _+_, _*_, _-_, _%_, _≤_, _<_}
+use Prim.Native.Nat.{ℕ, zero, suc, _+_, _*_, _-_, _%_, _≤_}
 use native.Mathlib.Omega.{arith}
 use mathlib.Core.Path.{_≡_, refl, ap, sym, _∙_}
 use mathlib.Core.List.{List, [], _∷_, _++_, append-nil, append-assoc}
@@ -8,11 +8,11 @@ use mathlib.Core.Bool.{Bool, true, false, _&&_, not, false≢true}
 use mathlib.Core.Option.{Option, none, some}
 use borrow.Author.Tests.{le-ltb, ltb-false, le-leb}
 use lib.ListN.{length, getD, take, drop, length-append, length-drop}
-use lib.Seq.{getD-at, getD-append-add, getD-drop, drop-drop, take-add, length-take-le}
+use lib.Seq.{getD-append-add, getD-drop, drop-drop, take-add, length-take-le}
 use lib.Dec.{ltb, eqb}
 use Rattle.definitions.specs.Basic.{pick, isNone, Answer, answer, refuse, refuseAt, refusal, unless, over, content, mostOctets}
-use Rattle.definitions.specs.Mandatory.{MandatoryRow, mandatoryRowsOf, mandatoryRowAt, mandatoryForm, lowHalf, highHalf, goodMandatory, mostMandatory, firstBadMandatoryFrom, firstBadMandatory, Found, missing, truncated, value, foundBy, faultOf, Rowed, stopped, noted, rowed, RowsRead, mandatoryReading, lowBits, fitsMandatory, encodedRow, rowsWritten, RowsWrote, mandatoryWriting}
-use Rattle.definitions.specs.Values.{Octets, Value, valueAt, present, sourceOf, octetsAt, goodValue, firstFrom, badRows, valuesTooLong}
+use Rattle.definitions.specs.Mandatory.{MandatoryRow, mandatoryRowsOf, mandatoryRowAt, mandatoryForm, goodMandatory, mostMandatory, firstBadMandatoryFrom, firstBadMandatory, Found, missing, truncated, value, foundBy, faultOf, Rowed, stopped, noted, rowed, RowsRead, mandatoryReading, lowBits, fitsMandatory, rowsWritten, mandatoryWriting}
+use Rattle.definitions.specs.Values.{Octets, valueAt, present, sourceOf, octetsAt, goodValue, firstFrom, badRows}
 use Rattle.definitions.proofs.RowLaws.{both}
 use Rattle.definitions.proofs.Mandatories.{by-fault, row-missing, row-truncated, row-value}
 use Rattle.promises.specs.RoundTrip.{AreOctets}

@@ -2,16 +2,14 @@
 -- By its form; a high half needs that the low half that waits is that of its own octet.
 use Prim.Native.Nat.{ℕ, zero, suc, _+_, _*_, _/_, _%_, _≤_, _<_}
 use native.Mathlib.Omega.{arith}
-use mathlib.Core.Path.{_≡_, refl, ap, ap₂, sym, _∙_}
-use mathlib.Core.List.{List, [], _∷_, _++_}
+use mathlib.Core.Path.{_≡_, refl, ap}
+use mathlib.Core.List.{List, [], _∷_}
 use mathlib.Core.Bool.{Bool, true, false, _&&_, _||_, not, false≢true}
-use mathlib.Core.Option.{none, some}
 use borrow.Author.Tests.{le-leb, eq-eqb, eqb-true, leb-true}
-use lib.ListN.{length, getD, take, drop, length-drop}
+use lib.ListN.{length, getD, take, drop}
 use lib.Seq.{length-take-le}
 use lib.Dec.{leb, eqb}
 use Rattle.definitions.specs.Basic.{pick}
-use Rattle.definitions.specs.Octets.{numberAt}
 use Rattle.definitions.specs.Mandatory.{MandatoryForm, lowHalf, highHalf, fixedV, lv, lv-e, MandatoryRow, mandatoryFormOf, mandatoryForm, isHalf, nextIs, goodMandatory, Found, missing, truncated, value, behind, counted, foundBy, lowBits, highBits, fitsMandatory, encodedRow}
 use Rattle.definitions.proofs.Octets.{number-two, number-short}
 use Rattle.definitions.proofs.Mandatories.{found-lv, found-lv-e}

@@ -1,7 +1,7 @@
 -- `decode_checked` takes document 01's checks in their order; what is judged decides whether anything is written.
 -- Each way out cites the law of its check.
 use native.Mathlib.Omega.{arith}
-use mathlib.Core.Path.{_≡_, sym, _∙_}
+use mathlib.Core.Path.{sym, _∙_}
 use Rattle.definitions.specs.Mandatory.{mandatoryRowsOf}
 use Rattle.definitions.proofs.Mandatories.{few-mandatory}
 use Rattle.mandatory.proofs.Checks.{read-long, read-room, read-refused, read-done}

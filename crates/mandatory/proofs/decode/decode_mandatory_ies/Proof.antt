@@ -1,6 +1,6 @@
 -- `decode_mandatory_ies` checks the table first.
 -- The rest is `decode_checked`.
-use mathlib.Core.Path.{_≡_, ap, sym, _∙_}
+use mathlib.Core.Path.{ap, sym, _∙_}
 use Rattle.rows.specs.Answers.{checkedAs}
 use Rattle.mandatory.proofs.Checks.{read-bad}
 use borrow.Author.Needs.{needs}

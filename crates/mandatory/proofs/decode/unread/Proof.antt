@@ -1,6 +1,5 @@
 -- `unread` is an answer without notes.
 -- They are those of `no_notes`.
-use mathlib.Core.Path.{_≡_}
 use borrow.Author.Needs.{needs}
 use Rattle.mandatory.proofs.decode.unread.Statement.{statement}
 use Rattle.mandatory.proofs.decode.unread.Tie as tie

@@ -7,7 +7,6 @@ use lib.ListN.{take, drop}
 use Rattle.definitions.specs.Mandatory.{mandatoryRowsOf, mandatoryRowAt, faultOf}
 use Rattle.definitions.proofs.Mandatories.{behind-short, behind-there}
 use Rattle.mandatory.specs.Founds.{faultAs, foundAs}
-use Rattle.mandatory.specs.declared.ie.Fault.{Fault}
 use Rattle.mandatory.specs.declared.ie.Found.{Found}
 use borrow.Author.Needs.{needs}
 use Rattle.mandatory.proofs.ie.behind.Statement.{statement}

@@ -1,7 +1,7 @@
 -- `behind_pair` is a value behind the length that two octets say.
 -- Without two octets there is no length.
 use Prim.Native.Nat.{ℕ}
-use mathlib.Core.Path.{_≡_, ap, sym, _∙_}
+use mathlib.Core.Path.{ap, sym, _∙_}
 use mathlib.Core.Option.{Option}
 use Rattle.definitions.specs.Mandatory.{mandatoryRowsOf, mandatoryRowAt, behind, counted}
 use Rattle.definitions.specs.Octets.{numberAt}

@@ -1,6 +1,10 @@
 -- `fault_of` is the fault of a complete value: the least length, then the value rule.
 -- The numbers that it is judged by are the row's.
-use mathlib.Core.Path.{_≡_, _∙_}
+use Prim.Native.Nat.{ℕ}
+use mathlib.Core.Path.{_≡_, refl, _∙_}
+use mathlib.Core.Bool.{Bool, true, false, not}
+use mathlib.Core.Option.{Option, none, some}
+use Rattle.definitions.specs.Basic.{pick}
 use Rattle.definitions.specs.Mandatory.{faultOf}
 use borrow.Author.Needs.{needs}
 use Rattle.mandatory.proofs.ie.fault_of.Statement.{statement}
@@ -18,9 +22,14 @@ receivable-requires c κs = search needs
 first-fault-requires : tie.Need-first-fault-requires
 first-fault-requires c κs = search needs
 
+-- the value rule, turned round
+turned : (b : Bool) → _≡_ {A = Option ℕ} (pick (not b) (some 9) none) (pick b none (some 9))
+turned true = refl
+turned false = refl
+
 returns : tie.Need-returns
 unfolding faultOf
-returns c = c .first-fault .ensures ∙ rw (c .before .receivable .ensures, c .before .before .mandatory-kinds-at .ensures, c .before .before .before .mandatory-least-at .ensures)
+returns c = c .first-fault .ensures ∙ rw (turned (c .before .receivable .result), c .before .receivable .ensures, c .before .before .mandatory-kinds-at .ensures, c .before .before .before .mandatory-least-at .ensures)
 
 pub fault-of-spec : {M : Type 1} → statement M
 fault-of-spec =

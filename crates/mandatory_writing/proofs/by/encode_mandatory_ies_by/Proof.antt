@@ -1,6 +1,6 @@
 -- `encode_mandatory_ies_by` writes by the mandatory rows that the number names.
 -- Each arm lends its constant, which passes its check; any other number has no table.
-use mathlib.Core.Path.{_≡_, ap}
+use mathlib.Core.Path.{ap}
 use Rattle.definitions.specs.Basic.{concat}
 use Rattle.definitions.specs.Tables.{mandatoryTableOf, plain, mandatory1, mandatory2, mandatory3, mandatory4, mandatory5, mandatory6}
 use Rattle.kept.specs.Kept.{usedOf}

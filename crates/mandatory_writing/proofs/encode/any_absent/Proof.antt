@@ -2,7 +2,7 @@
 -- The measure is what is left to look at.
 use Prim.Native.Nat.{_-_}
 use native.Mathlib.Omega.{arith}
-use mathlib.Core.Path.{_≡_, ap}
+use mathlib.Core.Path.{ap}
 use mathlib.Core.Bool.{not}
 use Rattle.definitions.specs.Basic.{isNone}
 use Rattle.definitions.specs.Values.{Value, valueAt, present}

@@ -1,7 +1,6 @@
 -- `encode_checked` makes the checks of what is lent, and goes on with the set octets that are used.
 -- Each way out cites the law of its check.
 use native.Mathlib.Omega.{arith}
-use mathlib.Core.Path.{_≡_}
 use lib.ListN.{length-take}
 use Rattle.definitions.specs.Basic.{content}
 use Rattle.definitions.specs.Mandatory.{mandatoryRowsOf}

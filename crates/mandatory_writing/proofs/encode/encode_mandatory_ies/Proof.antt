@@ -1,6 +1,6 @@
 -- `encode_mandatory_ies` checks the table first.
 -- The rest is `encode_checked`.
-use mathlib.Core.Path.{_≡_, ap, sym, _∙_}
+use mathlib.Core.Path.{ap, sym, _∙_}
 use Rattle.kept.specs.Kept.{usedOf}
 use Rattle.rows.specs.Answers.{checkedAs}
 use Rattle.mandatory_writing.proofs.Checks.{writing-table}

@@ -2,7 +2,7 @@
 -- Each way out cites the law of its check.
 use Prim.Native.Nat.{ℕ}
 use native.Mathlib.Omega.{arith}
-use mathlib.Core.Path.{_≡_, ap, sym, _∙_}
+use mathlib.Core.Path.{ap, sym, _∙_}
 use mathlib.Core.Bool.{not}
 use Rattle.definitions.specs.Basic.{isNone}
 use Rattle.definitions.specs.Mandatory.{mandatoryRowsOf}

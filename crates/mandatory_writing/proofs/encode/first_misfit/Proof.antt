@@ -2,7 +2,7 @@
 -- The measure is what is left to look at.
 use Prim.Native.Nat.{_-_}
 use native.Mathlib.Omega.{arith}
-use mathlib.Core.Path.{_≡_, ap, sym, _∙_}
+use mathlib.Core.Path.{ap, sym, _∙_}
 use mathlib.Core.Bool.{not}
 use Rattle.definitions.specs.Mandatory.{mandatoryRowsOf}
 use Rattle.values.specs.Rows.{sourcesOf}

@@ -2,11 +2,9 @@
 -- The measure is the rows left.
 use Prim.Native.Nat.{_+_, _-_}
 use native.Mathlib.Omega.{arith}
-use mathlib.Core.Path.{_≡_}
 use lib.ListN.{length}
-use Rattle.definitions.specs.Mandatory.{mandatoryRowsOf, mandatoryRowAt}
+use Rattle.definitions.specs.Mandatory.{mandatoryRowsOf}
 use Rattle.values.specs.Rows.{sourcesOf}
-use Rattle.mandatory_writing.specs.Writes.{sizeAt}
 use Rattle.mandatory_writing.proofs.Sizing.{Adding, adding, added-all, added-one}
 use borrow.Author.Needs.{needs}
 use Rattle.mandatory_writing.proofs.encode.octets_needed.Statement.{statement}

@@ -1,6 +1,6 @@
 -- `row_fits` is the fit of a row's value.
 -- Its form, source and octets are those of the definitions.
-use mathlib.Core.Path.{_≡_, ap, _∙_}
+use mathlib.Core.Path.{ap, _∙_}
 use Rattle.definitions.specs.Values.{Value, octetsAt}
 use Rattle.values.specs.Rows.{sourcesOf}
 use Rattle.mandatory_writing.specs.Writes.{fitsAt}

@@ -1,7 +1,6 @@
 -- `row_size` is the size of a row.
 -- Its form and octets are those of the definitions.
 use Prim.Native.Nat.{ℕ}
-use native.Mathlib.Omega.{arith}
 use mathlib.Core.Path.{_≡_, ap, ap₂, _∙_}
 use mathlib.Core.List.{List}
 use lib.ListN.{length}

@@ -1,7 +1,6 @@
 -- `half_fits` is the fit of a half.
 -- By its tests.
 use native.Mathlib.Omega.{arith}
-use mathlib.Core.Path.{_≡_}
 use borrow.Author.Tests.{eq-eqb, ne-eqb}
 use lib.ListN.{length}
 use Rattle.definitions.specs.Mandatory.{fitsMandatory}

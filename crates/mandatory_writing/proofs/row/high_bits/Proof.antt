@@ -1,7 +1,6 @@
 -- `high_bits` is the four bits of a high half.
 -- By its source.
 use native.Mathlib.Omega.{arith}
-use mathlib.Core.Path.{_≡_}
 use borrow.Author.Tests.{eq-eqb, ne-eqb}
 use Rattle.definitions.specs.Mandatory.{highBits}
 use borrow.Author.Needs.{needs}

@@ -1,7 +1,6 @@
 -- `low_bits` is the four bits of a low half.
 -- This is the definition.
 use native.Mathlib.Omega.{arith}
-use mathlib.Core.Path.{_≡_}
 use Rattle.definitions.specs.Mandatory.{lowBits}
 use borrow.Author.Needs.{needs}
 use Rattle.mandatory_writing.proofs.row.low_bits.Statement.{statement}
