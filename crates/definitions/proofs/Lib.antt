@@ -13,3 +13,4 @@ pub mod BitLaws
 pub mod Orders
 pub mod Readings
 pub mod WriteLaws
+pub mod Mandatories
