@@ -1,4 +1,4 @@
--- `put_octets` copies an octet a turn: the invariant says that the first i octets are copied and the rest is as it was.
+-- `put_any` copies an octet a turn: the invariant says that the first i octets are copied and the rest is as it was.
 -- There is room for all of them.
 use Prim.Native.Nat.{_≤_, _-_}
 use native.Mathlib.Omega.{arith}
@@ -8,8 +8,8 @@ use lib.ListN.{length, take, drop, length-set}
 use lib.Seq.{take-all}
 use Rattle.definitions.specs.Basic.{over}
 use Rattle.definitions.proofs.Lists.{copy-step}
-use Rattle.kept.proofs.put_octets.Statement.{statement}
-use Rattle.kept.proofs.put_octets.Tie as tie
+use Rattle.octets.proofs.copying.put_any.Statement.{statement}
+use Rattle.octets.proofs.copying.put_any.Tie as tie
 
 abbrev Inv-loop : tie.InvT-loop
 Inv-loop out₀ octets i₀ out i = (i ≤ length octets) × (length out ≡ length out₀) × (out ≡ take i octets ++ drop i out₀)
@@ -49,8 +49,8 @@ returns c =
     let n : l .i ≡ length (a .octets .now) = omega arith in
     l .inv .2 ∙ rw (take-all (l .i) (a .octets .now) (omega arith), n)
 
-pub put-octets-spec : {M : Type 1} → statement M
-put-octets-spec =
+pub put-any-spec : {M : Type 1} → statement M
+put-any-spec =
     tie.close
     (tie.spec
     Inv-loop
