@@ -12,3 +12,5 @@ pub mod LogLaws
 pub mod BitLaws
 pub mod Orders
 pub mod Readings
+pub mod WriteLaws
+pub mod Mandatories
