@@ -15,6 +15,8 @@ use reading::decode::Room;
 use rows::check::Checked;
 use rows::index::Place;
 use values::show::Shown;
+use writing::encode::Encoded;
+use writing::encode::Which;
 ghost use mathlib.Core.Path.{_≡_};
 ghost use mathlib.Core.List.{[], _∷_};
 ghost use Rattle.definitions.specs.Basic.{answer};
@@ -25,6 +27,7 @@ ghost use Rattle.order.specs.Order.{placedAs, entryAs};
 ghost use Rattle.reading.specs.Decodes.{roomAs, decodedAs};
 ghost use Rattle.values.specs.Shows.{shownAs};
 ghost use Rattle.rows.specs.Answers.{checkedAs, placeAs};
+ghost use Rattle.writing.specs.Encodes.{whichAs, encodedAs};
 ghost use Rattle.answers.specs.Nexts.{stateNumbers, verdictNumber, NextSays};
 ghost use Rattle.answers.specs.Says.{put, Says, checkAnswer, placeAnswer, lengthAnswer, lengthAs};
 
@@ -222,6 +225,32 @@ pub fn edited_said(edited: Edited, values: &mut [u64; 5]) -> u32
         Edited::Malformed => one(11, 3, values),
         Edited::Unfit(place) => one(10, place as u64, values),
         Edited::NoSet(need) => one(12, need as u64, values),
+    }
+}
+
+// A malformed log, or malformed rows.
+fn which_said(which: Which, values: &mut [u64; 5]) -> u32
+    ensures { λ r. ⌜ Says (answer 11 (whichAs which ∷ [])) r (now (values .entry)) (now (values .exit)) ⌝ }
+{
+    match which {
+        Which::Order => one(11, 1, values),
+        Which::Kept => one(11, 2, values),
+        Which::Rows => one(11, 3, values),
+    }
+}
+
+pub fn encoded_said(encoded: Encoded, values: &mut [u64; 5]) -> u32
+    ensures { λ r. ⌜ Says (encodedAs encoded) r (now (values .entry)) (now (values .exit)) ⌝ }
+{
+    match encoded {
+        Encoded::Done(n) => one(0, n as u64, values),
+        Encoded::NoRows => one(2, 1, values),
+        Encoded::TooLong => none(3, values),
+        Encoded::BadTable(row) => one(4, row as u64, values),
+        Encoded::NoTable => none(5, values),
+        Encoded::Unfit(place) => one(10, place as u64, values),
+        Encoded::Malformed(which) => which_said(which, values),
+        Encoded::NoOutput(need) => one(12, need, values),
     }
 }
 

@@ -6,7 +6,7 @@ ghost use Rattle.mandatory.specs.Notes.{noNotes, withNote, withFault};
 
 // A row and its fault's number, 8 or 9.
 pub struct Note {
-    pub row: usize,
+    pub row: u32,
     pub number: u32,
 }
 
@@ -27,19 +27,22 @@ pub fn no_notes() -> Notes
 
 // With a note more.
 fn with_note(notes: Notes, row: usize, number: u32) -> Notes
-    requires { ⌜ notes .count < 32 ⌝ }
+    requires { ⌜ (notes .count < 32) × (row < 4294967296) ⌝ }
     ensures { λ r. ⌜ r ≡ withNote notes row number ⌝ }
 {
     let at = notes.count;
     let mut with = notes;
-    with.notes[at] = Note { row, number };
+    with.notes[at] = Note {
+        row: row as u32,
+        number,
+    };
     with.count = at + 1;
     with
 }
 
 // With the fault of a row noted, if it has one.
 pub(crate) fn with_fault(notes: Notes, row: usize, fault: Fault) -> Notes
-    requires { ⌜ notes .count < 32 ⌝ }
+    requires { ⌜ (notes .count < 32) × (row < 4294967296) ⌝ }
     ensures { λ r. ⌜ r ≡ withFault notes row fault ⌝ }
 {
     match fault {

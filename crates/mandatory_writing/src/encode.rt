@@ -3,11 +3,12 @@ use crate::row::encoded_size;
 use crate::row::fits_mandatory;
 use crate::row::low_bits;
 use crate::row::put_row;
-use octets::MOST_OCTETS;
+use octets::part;
 use rows::check::Checked;
 use rows::check::check_mandatory_table;
 use rows::columns::mandatory_form_at;
 use rows::columns::mandatory_rows;
+use values::check::too_long;
 use values::row::any_bad;
 use values::row::row_at;
 use values::row::value_octets;
@@ -175,19 +176,13 @@ pub(crate) fn encode_checked<'a>(
     requires { ⌜ firstBadMandatory (mandatoryRowsOf (now table)) ≡ none ⌝ }
     ensures { λ r. ⌜ Writes (mandatoryWriting (now (table .entry)) (now (rows .entry)) (now (received .entry)) (usedOf (now (set .entry)) «set_used») (now (output .entry))) r (now (output .exit)) ⌝ }
 {
-    if received.len() > MOST_OCTETS {
-        return MandatoryWrote::TooLong;
-    }
-    if set_used > set.len() {
-        return MandatoryWrote::TooLong;
-    }
-    if set_used > MOST_OCTETS {
+    if too_long(received, set, set_used, 0) {
         return MandatoryWrote::TooLong;
     }
     if rows.len() < 3 * mandatory_rows(table) {
         return MandatoryWrote::NoRoom;
     }
-    encode_octets(table, rows, received, &set[..set_used], output)
+    encode_octets(table, rows, received, part(set, 0, set_used), output)
 }
 
 // By a lent table: the lent rows, the received octets, and the set octets that are used.

@@ -8,6 +8,7 @@ use answers::checked_said;
 use answers::counted_said;
 use answers::decoded_said;
 use answers::edited_said;
+use answers::encoded_said;
 use answers::entry_said;
 use answers::got_said;
 use answers::length_said;
@@ -33,6 +34,8 @@ use rows::index::iei_index;
 use rows::index::place_of;
 use seen::Seen;
 use values::show::show;
+use writing::encode::encode_optional_ies;
+use writing::encode::encode_optional_ies_by;
 ghost use mathlib.Core.Path.{_≡_};
 ghost use mathlib.Core.Bool.{not};
 ghost use lib.Dec.{eqb};
@@ -42,12 +45,13 @@ ghost use Rattle.definitions.specs.Mandatory.{mandatoryRowsOf, firstBadMandator
 ghost use Rattle.definitions.specs.Reading.{reading, readingBy};
 ghost use Rattle.definitions.specs.Rows.{rowsOf, firstBad, index as indexOf, placeIn};
 ghost use Rattle.definitions.specs.Values.{showing, setting, clearing};
+ghost use Rattle.definitions.specs.Writing.{writing, writingBy};
 ghost use Rattle.kept.specs.Kept.{usedOf};
 ghost use Rattle.reading.specs.Decodes.{lentOf};
 ghost use Rattle.elements.specs.Nexts.{nextOf};
 ghost use Rattle.nas.specs.Entries.{orderPushBy};
 ghost use Rattle.answers.specs.Nexts.{stateBy, NextSays};
-ghost use Rattle.answers.specs.Says.{Says, ReadSays, EditSays, checkAnswer, placeAnswer, lengthAnswer};
+ghost use Rattle.answers.specs.Says.{Says, ReadSays, EditSays, WriteSays, checkAnswer, placeAnswer, lengthAnswer};
 
 // The length of an unknown element from the octets from its first octet on: 0 and the length, or 1, cut short.
 #[no_mangle]
@@ -273,4 +277,73 @@ pub extern "C" fn nas_clear(
     ensures { λ r. ⌜ EditSays (clearing (now (table .entry)) (now (rows .entry)) (now (received .entry)) (usedOf (now (set .entry)) used) place) r (now (values .entry)) (now (values .exit)) (now (rows .exit)) (now (set .entry)) ⌝ }
 {
     edited_said(clear_place(table, rows, received, set, used, place), values)
+}
+
+// An optional part from its place rows, the received and the set octets, and both logs: 0 and the octets written; 4 and the first
+// bad row; 3; 2 and 1; 11 and which; 10 and the lowest place; 12 and the octets needed.
+#[no_mangle]
+pub extern "C" fn nas_write<'a>(
+    table: &[u32],
+    rows: &[u32],
+    received: &'a [u8],
+    set: &'a [u8],
+    set_used: usize,
+    kept: &[u8],
+    kept_used: usize,
+    order: &[u8],
+    order_used: usize,
+    output: &mut [u8],
+    values: &mut [u64; 5],
+) -> u32
+    ensures { λ r. ⌜ WriteSays (writing (now (table .entry)) (now (rows .entry)) (now (received .entry)) (usedOf (now (set .entry)) «set_used») (usedOf (now (order .entry)) «order_used») (usedOf (now (kept .entry)) «kept_used») (now (output .entry))) r (now (values .entry)) (now (values .exit)) (now (output .exit)) ⌝ }
+{
+    encoded_said(
+        encode_optional_ies(
+            table,
+            rows,
+            received,
+            set,
+            set_used,
+            kept,
+            kept_used,
+            order,
+            order_used,
+            output,
+        ),
+        values,
+    )
+}
+
+// The same by table number, 0 for P and 1 to 6 for the real tables; 5 for any other number.
+#[no_mangle]
+pub extern "C" fn nas_write_by<'a>(
+    number: u32,
+    rows: &[u32],
+    received: &'a [u8],
+    set: &'a [u8],
+    set_used: usize,
+    kept: &[u8],
+    kept_used: usize,
+    order: &[u8],
+    order_used: usize,
+    output: &mut [u8],
+    values: &mut [u64; 5],
+) -> u32
+    ensures { λ r. ⌜ WriteSays (writingBy number (now (rows .entry)) (now (received .entry)) (usedOf (now (set .entry)) «set_used») (usedOf (now (order .entry)) «order_used») (usedOf (now (kept .entry)) «kept_used») (now (output .entry))) r (now (values .entry)) (now (values .exit)) (now (output .exit)) ⌝ }
+{
+    encoded_said(
+        encode_optional_ies_by(
+            number,
+            rows,
+            received,
+            set,
+            set_used,
+            kept,
+            kept_used,
+            order,
+            order_used,
+            output,
+        ),
+        values,
+    )
 }

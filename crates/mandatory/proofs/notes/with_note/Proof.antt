@@ -5,8 +5,11 @@ use borrow.Author.Needs.{needs}
 use Rattle.mandatory.proofs.notes.with_note.Statement.{statement}
 use Rattle.mandatory.proofs.notes.with_note.Tie as tie
 
-mul-t7 : tie.Need-mul-t7
-mul-t7 c = search needs
+cast-t6 : tie.Need-cast-t6
+cast-t6 c = search needs
+
+mul-t8 : tie.Need-mul-t8
+mul-t8 c = search needs
 
 element-set-from-with : tie.Need-element-set-from-with
 element-set-from-with c = search needs
@@ -19,4 +22,4 @@ unfolding withNote
 returns c = search needs
 
 pub with-note-spec : {M : Type 1} → statement M
-with-note-spec = tie.close (tie.spec mul-t7 element-set-from-with add-with returns)
+with-note-spec = tie.close (tie.spec cast-t6 mul-t8 element-set-from-with add-with returns)
