@@ -11,4 +11,5 @@ pub mod FrameLaws
 pub mod LogLaws
 pub mod BitLaws
 pub mod Orders
+pub mod LogSteps
 pub mod Readings

@@ -129,7 +129,7 @@ fn aside_entry(x: u8) -> Placed
 }
 
 // The entry at the front of a log.
-fn front_at(s: &[u8]) -> Front
+pub fn front_at(s: &[u8]) -> Front
     ensures { λ r. ⌜ frontAs r ≡ orderFront (now (s .entry)) ⌝ }
 {
     if s.len() == 0 {

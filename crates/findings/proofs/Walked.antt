@@ -1,0 +1,3 @@
+-- x
+-- x
+use mathlib.Core.Path.{_≡_}
