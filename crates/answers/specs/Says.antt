@@ -7,6 +7,7 @@ use lib.ListN.{length, set}
 use Rattle.definitions.specs.Basic.{Answer, answer}
 use Rattle.definitions.specs.Reading.{Read}
 use Rattle.definitions.specs.Values.{Edited}
+use Rattle.definitions.specs.Findings.{Noted}
 use Rattle.length.specs.declared.Length.{Length}
 
 -- values stored one after the other from a place on; every other place is as it was. The five lent places are known by their
@@ -41,6 +42,11 @@ pub record EditSays (e : Edited) (number : ℕ) (before after rows set : List �
   pub says : Says (e .said) number before after
   pub rows-are : rows ≡ e .rows
   pub set-is : set ≡ e .set
+
+-- and of the findings: number and values, and the findings
+pub record FindingSays (d : Noted) (number : ℕ) (before after findings : List ℕ) : Type 0 where
+  pub says : Says (d .said) number before after
+  pub findings-are : findings ≡ d .findings
 
 -- the answer of a table check: passed, or refusal 4 with the first bad row
 abbrev pub checkAnswer : Option ℕ → Answer

@@ -3,6 +3,8 @@
 use edits::Edited;
 use elements::element::State;
 use elements::next::NextElement;
+use findings::Found;
+use findings::Log;
 use kept::Counted;
 use kept::Got;
 use kept::Pushed;
@@ -20,6 +22,7 @@ ghost use mathlib.Core.List.{[], _∷_};
 ghost use Rattle.definitions.specs.Basic.{answer};
 ghost use Rattle.definitions.specs.Logs.{orderEntry};
 ghost use Rattle.edits.specs.Edits.{editedAs};
+ghost use Rattle.findings.specs.Findings.{logAs, foundAs};
 ghost use Rattle.kept.specs.Kept.{pushedAs, countedAs, gotAs};
 ghost use Rattle.order.specs.Order.{placedAs, entryAs};
 ghost use Rattle.reading.specs.Decodes.{roomAs, decodedAs};
@@ -222,6 +225,27 @@ pub fn edited_said(edited: Edited, values: &mut [u64; 5]) -> u32
         Edited::Malformed => one(11, 3, values),
         Edited::Unfit(place) => one(10, place as u64, values),
         Edited::NoSet(need) => one(12, need as u64, values),
+    }
+}
+
+fn log_said(log: Log, values: &mut [u64; 5]) -> u32
+    ensures { λ r. ⌜ Says (answer 11 (logAs log ∷ [])) r (now (values .entry)) (now (values .exit)) ⌝ }
+{
+    match log {
+        Log::Order => one(11, 1, values),
+        Log::Kept => one(11, 2, values),
+    }
+}
+
+pub fn found_said(found: Found, values: &mut [u64; 5]) -> u32
+    ensures { λ r. ⌜ Says (foundAs found) r (now (values .entry)) (now (values .exit)) ⌝ }
+{
+    match found {
+        Found::Findings(n) => one(0, n as u64, values),
+        Found::BadTable(row) => one(4, row as u64, values),
+        Found::TooLong => none(3, values),
+        Found::Malformed(log) => log_said(log, values),
+        Found::NoRoom => one(2, 4, values),
     }
 }
 

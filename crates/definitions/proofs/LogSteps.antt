@@ -62,6 +62,7 @@ module _ (kept : List ℕ) (at : ℕ) where
   pub record KeptEntry (c : Count) : Type 0 where
     pub within : at + c .took + c .value ≤ length kept
     pub count : 1 ≤ c .took
+    pub octet : 1 ≤ c .value
     pub splits : keptList (drop at kept) ≡ put (take (c .value) (drop (at + c .took) kept)) (keptList (drop (at + c .took + c .value) kept))
 
   pub kept-split : {c : Count} → at ≤ length kept → entryOf s (countAt s) ≡ some c → KeptEntry c
@@ -74,6 +75,7 @@ module _ (kept : List ℕ) (at : ℕ) where
       record {
         within = omega (arith, f .0);
         count = f .2;
+        octet = f .1;
         splits = kept-front s (omega (arith, f .0, f .2)) ∙ rw (e, d, d′);
       }
 

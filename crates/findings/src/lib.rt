@@ -1,5 +1,8 @@
 // What is wrong with the order of a part, by its two logs: for each finding the number of an entry of the order log and a kind.
 mod walk;
+
+use crate::walk::count_findings;
+use crate::walk::put_findings;
 use kept::Counted;
 use kept::MOST_LOG;
 use kept::kept_count;
@@ -8,9 +11,6 @@ use order::Entry;
 use order::order_get;
 use rows::check::Checked;
 use rows::check::check_and_index;
-use rows::marks::NO_PLACE;
-use crate::walk::count_findings;
-use crate::walk::put_findings;
 ghost use mathlib.Core.Path.{_≡_};
 ghost use mathlib.Core.Bool.{false};
 ghost use Rattle.definitions.specs.Basic.{content, tooLong, mostLog, isNone};
@@ -109,11 +109,9 @@ pub fn optional_ie_order_findings(
 ) -> Found
     ensures { λ r. ⌜ Finds (finding (now (table .entry)) (usedOf (now (order .entry)) «order_used») (usedOf (now (kept .entry)) «kept_used») (now (findings .entry))) r (now (findings .exit)) ⌝ }
 {
-    let mut index = [NO_PLACE; 256];
+    let mut index = [255u8; 256];
     match check_and_index(table, &mut index) {
-        Checked::Passes => {
-            find_by_index(&index, kept, kept_used, order, order_used, findings)
-        }
+        Checked::Passes => { find_by_index(&index, kept, kept_used, order, order_used, findings) }
         Checked::BadRow(k) => Found::BadTable(k),
     }
 }

@@ -164,7 +164,7 @@ fn judge(index: &[u8], kept: &[u8], w: Walk, entry: Placed) -> Judged
 }
 
 // Past the entry at a position from which the order log is well formed, so that there is one.
-fn step(index: &[u8], order: &[u8], kept: &[u8], w: Walk) -> Step
+fn next_entry(index: &[u8], order: &[u8], kept: &[u8], w: Walk) -> Step
     requires { ⌜ Walking (now order) (now kept) w × (w .order < length (now order)) ⌝ }
     ensures { λ r. ⌜ Stepped (now (index .entry)) (now (order .entry)) (now (kept .entry)) w r ⌝ }
 {
@@ -200,7 +200,7 @@ pub(crate) fn count_findings(index: &[u8], order: &[u8], kept: &[u8]) -> usize
     };
     let mut n = 0;
     while w.order < order.len() {
-        let s = step(index, order, kept, w);
+        let s = next_entry(index, order, kept, w);
         if s.kind != 0 {
             n += 1;
         }
@@ -236,7 +236,7 @@ pub(crate) fn put_findings(index: &[u8], order: &[u8], kept: &[u8], findings: &m
     };
     let mut n = 0;
     while w.order < order.len() {
-        let s = step(index, order, kept, w);
+        let s = next_entry(index, order, kept, w);
         n = put_found(findings, n, w.entry, s.kind);
         let next = s.walk;
         w = next;
