@@ -11,7 +11,7 @@ use rows::index::Place;
 use rows::index::place_of;
 ghost use mathlib.Core.Path.{_≡_};
 ghost use mathlib.Core.Option.{Option·getD};
-ghost use Prim.Native.Nat.{_+_, _*_, _≤_, _<_};
+ghost use Prim.Native.Nat.{_+_, _≤_, _<_};
 ghost use lib.ListN.{length};
 ghost use Rattle.definitions.specs.Basic.{pick, isNone, concat, over, overAt};
 ghost use Rattle.definitions.specs.Rows.{placeIn, ieiOf};
