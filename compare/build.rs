@@ -165,7 +165,8 @@ fn link(folder: &Path) {
 /// The family of a function, as a feature; none where every library has it.
 fn family(name: &str) -> Option<&'static str> {
     match name {
-        "nas_write" | "nas_write_by" | "nas_set" | "nas_clear" => Some("LINKED_WRITING"),
+        "nas_set" | "nas_clear" => Some("LINKED_EDITING"),
+        "nas_write" | "nas_write_by" => Some("LINKED_WRITING"),
         "nas_check_mandatory_table" => None,
         "nas_findings" => Some("LINKED_FINDINGS"),
         name if name.contains("mandatory") => Some("LINKED_MANDATORY"),

@@ -3,20 +3,21 @@
  * Each call returns a number, 0 for done and the others refusals, and puts into values how many values go with it, then these
  * values in the order given below; the places behind them stay as they were. So values[0] is 0 to 4, and the first value is
  * values[1]. A slice is a pointer and a number of elements. A pointer may be any that is not null and aligned where that number
- * is 0. What is lent for writing overlaps nothing else that is lent to the same call. A refusal changes nothing lent but values.
- * No call asks anything else of its caller: any octets, numbers, tables, rows, logs and counts get an answer.
+ * is 0. What is lent for writing overlaps nothing else that is lent to the same call. A refusal changes nothing lent but values,
+ * and the notes of a mandatory reading. No call asks anything else of its caller: any octets, numbers, tables, rows, logs and
+ * counts get an answer.
  *
  * Refusals, with their values:
  *   1   an element is cut short
  *   2   no room: where, 1 place rows, 2 kept log, 3 order log, 4 findings
- *   3   too long, no value: a part, received or set octets, or a pushed element over 65,535 octets; a log over 131,070 octets,
- *       or so after the push; a used count above its buffer
+ *   3   too long, no value: a part, received or set octets, or a pushed element over 65,535 octets; a log over 131,070 octets;
+ *       set octets or a log so after the setting or push; a used count above its buffer
  *   4   the table fails the check: its first bad row
  *   5   no table has this number, no value
- *   6, 7, 8, 9  a mandatory row is missing, truncated, too short, or has a value that is not receivable: the row, how many notes
- *   10  the value of a place does not fit its form: the place
+ *   6, 7, 8, 9  a mandatory row is missing, truncated, too short, not receivable: the row, and how many notes there are
+ *   10  the value of a place or row does not fit its form: the place or row
  *   11  malformed: which, 1 order log, 2 kept log, 3 place rows, or a place not in the table
- *   12  output, or room for set octets, shorter than needed: the octets needed
+ *   12  the output, or the room for set octets, is too short: the octets needed
  * Below, each call lists its refusals in the order in which they are checked: the first that is true is the answer.
  *
  * A table of optional elements has nine numbers a row: how many IEIs (1 to 4), four IEIs, the form (0 half octet, 1 fixed,
@@ -131,63 +132,69 @@ uint32_t nas_next(const uint8_t *part, size_t part_len, const uint32_t *table, s
 uint32_t nas_show(const uint32_t *table, size_t table_len, const uint32_t *rows, size_t rows_len, const uint8_t *received,
                   size_t received_len, const uint8_t *set, size_t set_len, size_t used, size_t place, uint64_t values[5]);
 
-/* Writes an optional part from its place rows, received and set octets and both logs; of set octets and logs the first used
- * ones count. Behind what is written the output stays as it was.
- * 0: the octets written. 4: the first bad row of the table. 3: no value. 2: 1. 11: 1, 2 or 3. 10: the lowest place whose value
- * does not fit its form. 12: the octets needed. */
+/* Sets the value of a place: it goes behind the set octets that are used, and the row points there. No log is touched.
+ * 0: the set octets then used. 4: the first bad row of the table. 3. 2: 1. 11: 3. 10: the place. 12: the set octets needed. */
+uint32_t nas_set(const uint32_t *table, size_t table_len, uint32_t *rows, size_t rows_len, const uint8_t *received,
+                 size_t received_len, uint8_t *set, size_t set_len, size_t used, size_t place, const uint8_t *value,
+                 size_t value_len, uint64_t values[5]);
+
+/* Makes a place absent. No log is touched, and no set octet.
+ * 0: no value. 4: the first bad row of the table. 3. 2: 1. 11: 3. */
+uint32_t nas_clear(const uint32_t *table, size_t table_len, uint32_t *rows, size_t rows_len, const uint8_t *received,
+                   size_t received_len, const uint8_t *set, size_t set_len, size_t used, size_t place, uint64_t values[5]);
+
+/* ---- writing an optional part */
+
+/* Writes an optional part from its place rows, the received and the set octets, and both logs; of set octets and logs the first
+ * used ones count. Elements come in the order of the order log; a place that is present and not in it comes before the first
+ * logged element of a higher place. Behind what is written the output stays as it was.
+ * 0: the octets written. 4: the first bad row of the table. 3. 2: 1. 11: 1. 11: 2. 11: 3. 10: the lowest place whose value does
+ * not fit its form. 12: the octets needed. */
 uint32_t nas_write(const uint32_t *table, size_t table_len, const uint32_t *rows, size_t rows_len, const uint8_t *received,
                    size_t received_len, const uint8_t *set, size_t set_len, size_t set_used, const uint8_t *kept,
                    size_t kept_len, size_t kept_used, const uint8_t *order, size_t order_len, size_t order_used,
                    uint8_t *output, size_t output_len, uint64_t values[5]);
 
-/* The same by table number.
- * As nas_write, but 5, no value, for a number that no table has, and never 4. */
+/* The same by table number, as with nas_read_by.
+ * 5 for a number that no table has, checked first; never 4; else as nas_write. */
 uint32_t nas_write_by(uint32_t number, const uint32_t *rows, size_t rows_len, const uint8_t *received, size_t received_len,
                       const uint8_t *set, size_t set_len, size_t set_used, const uint8_t *kept, size_t kept_len,
                       size_t kept_used, const uint8_t *order, size_t order_len, size_t order_used, uint8_t *output,
                       size_t output_len, uint64_t values[5]);
 
-/* Sets a place: its value goes behind the used set octets, and its row points there.
- * 0: the set octets then used. 4: the first bad row of the table. 3: no value. 2: 1. 11: 3. 10: the place. 12: the octets
- * needed. */
-uint32_t nas_set(const uint32_t *table, size_t table_len, uint32_t *rows, size_t rows_len, const uint8_t *received,
-                 size_t received_len, uint8_t *set, size_t set_len, size_t used, size_t place, const uint8_t *value,
-                 size_t value_len, uint64_t values[5]);
+/* ---- mandatory rows */
 
-/* Makes a place absent.
- * 0: no value. 4: the first bad row of the table. 3: no value. 2: 1. 11: 3. */
-uint32_t nas_clear(const uint32_t *table, size_t table_len, uint32_t *rows, size_t rows_len, const uint8_t *received,
-                   size_t received_len, const uint8_t *set, size_t set_len, size_t used, size_t place, uint64_t values[5]);
-
-/* Reads mandatory rows; what follows them is left. lenient 0: the first fault refuses; any other: a row that is too short or
- * not receivable is kept and noted. rows gets three numbers for each row, as with nas_read; notes gets row and number (8 or 9)
- * of each note, also where the reading is refused, and behind them stays as it was.
- * 0: the octets read, how many notes. 4: the first bad row of the table. 3: no value. 2: 1. 6, 7, 8, 9: the row, how many
- * notes. */
+/* Reads mandatory rows from the front of a part; what follows them is left. lenient 0: the first fault refuses; any other: a row
+ * that is too short or not receivable is kept and noted, and a row that is missing or truncated still refuses. rows gets three
+ * numbers for each row, as with nas_read. notes gets row and number (8 or 9) of each note, two numbers each, also where the
+ * reading is refused with 6 or 7; behind them it stays as it was. 64 numbers are always enough.
+ * 0: the octets read, how many notes. 4: the first bad row of the table. 3. 2: 1. 6, 7, 8, 9: the row, how many notes. */
 uint32_t nas_read_mandatory(const uint8_t *part, size_t part_len, const uint32_t *table, size_t table_len, uint8_t lenient,
                             uint32_t *rows, size_t rows_len, uint32_t notes[64], uint64_t values[5]);
 
-/* The same by table number.
- * As nas_read_mandatory, but 5, no value, for a number that no table has, and never 4. */
+/* The same by table number: 1 to 6 as with nas_read_by; 0 has no mandatory rows.
+ * 5 for a number that no table has, checked first; never 4; else as nas_read_mandatory. */
 uint32_t nas_read_mandatory_by(uint32_t number, const uint8_t *part, size_t part_len, uint8_t lenient, uint32_t *rows,
                                size_t rows_len, uint32_t notes[64], uint64_t values[5]);
 
 /* Writes mandatory rows one after the other, a high half in the octet of its low half.
- * 0: the octets written. 4: the first bad row of the table. 3: no value. 2: 1. 11: 3, also for an absent row. 10: the lowest
- * row whose value does not fit its form. 12: the octets needed. */
+ * 0: the octets written. 4: the first bad row of the table. 3. 2: 1. 11: 3, also for an absent row. 10: the lowest row whose
+ * value does not fit its form. 12: the octets needed. */
 uint32_t nas_write_mandatory(const uint32_t *table, size_t table_len, const uint32_t *rows, size_t rows_len,
                              const uint8_t *received, size_t received_len, const uint8_t *set, size_t set_len,
                              size_t set_used, uint8_t *output, size_t output_len, uint64_t values[5]);
 
-/* The same by table number.
- * As nas_write_mandatory, but 5, no value, for a number that no table has, and never 4. */
+/* The same by table number, as with nas_read_mandatory_by.
+ * 5 for a number that no table has, checked first; never 4; else as nas_write_mandatory. */
 uint32_t nas_write_mandatory_by(uint32_t number, const uint32_t *rows, size_t rows_len, const uint8_t *received,
                                 size_t received_len, const uint8_t *set, size_t set_len, size_t set_used, uint8_t *output,
                                 size_t output_len, uint64_t values[5]);
 
-/* What is wrong with the order of a part, by its logs: two numbers each, the entry of the order log from 0, and 1 a place below
- * one before it, 2 an unknown element whose IEI has a place, 3 malformed, 4 repeated, 5 out of sequence.
- * 0: how many. 4: the first bad row of the table. 3: no value. 11: 1 or 2. 2: 4. */
+/* ---- the order of a part */
+
+/* What is out of the ordinary in the order of a part, by its logs: two numbers each, the entry of the order log from 0, and 1 a
+ * known place below one before it, 2 an unknown element whose IEI has a place, 3 malformed, 4 repeated, 5 out of sequence.
+ * 0: how many. 4: the first bad row of the table. 3. 11: 1. 11: 2. 2: 4. */
 uint32_t nas_findings(const uint32_t *table, size_t table_len, const uint8_t *kept, size_t kept_len, size_t kept_used,
                       const uint8_t *order, size_t order_len, size_t order_used, uint32_t *findings, size_t findings_len,
                       uint64_t values[5]);

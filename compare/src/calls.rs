@@ -2,7 +2,7 @@
 
 use std::fmt::{self, Display, Formatter};
 
-use crate::interface::{Edited, Lent, Mandatory, Message, Side, State, Used, Values, Writing};
+use crate::interface::{Edited, Editing, Lent, Mandatory, Message, Side, State, Used, Values, Writing};
 use crate::judge::Room;
 use crate::rows::{MANDATORY_WIDTH, PLACE, WIDTH};
 
@@ -113,7 +113,8 @@ impl Family {
     pub fn on(self, side: &dyn Side) -> bool {
         match self {
             Family::Pieces | Family::Reading | Family::Stepping | Family::Showing => true,
-            Family::Writing | Family::Editing => side.writing().is_some(),
+            Family::Writing => side.writing().is_some(),
+            Family::Editing => side.editing().is_some(),
             Family::ReadingRows | Family::WritingRows => side.mandatory().is_some(),
             Family::Finding => side.findings().is_some(),
         }
@@ -129,6 +130,10 @@ pub struct Outcome {
     pub notes: Vec<u32>,
     pub logs: [Vec<u8>; 2],
     pub state: State,
+}
+
+fn editing(side: &dyn Side) -> &dyn Editing {
+    side.editing().expect("a call is made on sides that have it")
 }
 
 fn writing(side: &dyn Side) -> &dyn Writing {
@@ -236,11 +241,11 @@ impl Call {
                     used: places.set.used,
                     place: *place,
                 };
-                writing(side).set(table, edited, value, &mut values)
+                editing(side).set(table, edited, value, &mut values)
             }
             Call::Clear { table, places, place } => {
                 rows = places.rows.clone();
-                writing(side).clear(table, &mut rows, &places.received, places.set.lent(), *place, &mut values)
+                editing(side).clear(table, &mut rows, &places.received, places.set.lent(), *place, &mut values)
             }
             Call::ReadMandatory { rows: room, .. } | Call::ReadMandatoryBy { rows: room, .. } => {
                 rows = lent_rows(*room);

@@ -66,15 +66,20 @@ pub trait Side {
     ) -> u32;
 
     /// None where the library has no such calls yet.
+    fn editing(&self) -> Option<&dyn Editing>;
     fn writing(&self) -> Option<&dyn Writing>;
     fn mandatory(&self) -> Option<&dyn Mandatory>;
     fn findings(&self) -> Option<&dyn Findings>;
 }
 
-/// Writing an optional part, and edits of its places.
+/// Writing an optional part.
 pub trait Writing {
     fn write(&self, table: &[u32], message: Message<'_>, output: &mut [u8], values: &mut Values) -> u32;
     fn write_by(&self, number: u32, message: Message<'_>, output: &mut [u8], values: &mut Values) -> u32;
+}
+
+/// Edits of the places of a message.
+pub trait Editing {
     fn set(&self, table: &[u32], edited: Edited<'_>, value: &[u8], values: &mut Values) -> u32;
     fn clear(
         &self,

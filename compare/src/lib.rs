@@ -23,6 +23,8 @@ pub mod judge_mandatory;
 pub mod judge_writing;
 #[cfg(feature = "linked")]
 mod linked;
+#[cfg(feature = "linked-editing")]
+mod linked_editing;
 #[cfg(feature = "linked-findings")]
 mod linked_findings;
 #[cfg(feature = "linked-mandatory")]

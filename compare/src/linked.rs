@@ -1,6 +1,6 @@
 //! Our side: the C interface of libnas.a.
 
-use crate::interface::{Findings, Lent, Mandatory, Side, State, Used, Values, Writing};
+use crate::interface::{Editing, Findings, Lent, Mandatory, Side, State, Used, Values, Writing};
 
 unsafe extern "C" {
     fn nas_generic_ie_length(octets: *const u8, octets_len: usize, tlve_start: u8, values: *mut Values) -> u32;
@@ -202,6 +202,13 @@ impl Side for Linked {
                 values,
             )
         }
+    }
+
+    fn editing(&self) -> Option<&dyn Editing> {
+        #[cfg(feature = "linked-editing")]
+        return Some(self);
+        #[cfg(not(feature = "linked-editing"))]
+        None
     }
 
     fn writing(&self) -> Option<&dyn Writing> {

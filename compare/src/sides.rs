@@ -4,7 +4,9 @@ use std::cell::RefCell;
 use std::rc::Rc;
 
 use crate::cores::{ByModel, Core};
-use crate::interface::{Edited, Findings, Lent, Mandatory, Message, Notes, Side, State, Used, Values, Writing};
+use crate::interface::{
+    Edited, Editing, Findings, Lent, Mandatory, Message, Notes, Side, State, Used, Values, Writing,
+};
 use crate::judge::{self, Answer, Log, Model, Room, answer};
 use crate::judge_findings;
 use crate::judge_mandatory;
@@ -201,6 +203,10 @@ impl<C: Core> Side for Judged<C> {
         asked(judge_writing::showing(Edit { table, rows, received, set, place }), values)
     }
 
+    fn editing(&self) -> Option<&dyn Editing> {
+        Some(self)
+    }
+
     fn writing(&self) -> Option<&dyn Writing> {
         Some(self)
     }
@@ -234,7 +240,9 @@ impl<C: Core> Writing for Judged<C> {
             Err(refusal) => give(refusal, values),
         }
     }
+}
 
+impl<C: Core> Editing for Judged<C> {
     fn set(&self, table: &[u32], edited: Edited<'_>, value: &[u8], values: &mut Values) -> u32 {
         let Edited { rows, received, set, used, place } = edited;
         let edit = Edit { table, rows, received, set: Used { octets: set, used }, place };

@@ -147,7 +147,7 @@ impl Call {
         while smaller {
             smaller = false;
             for list in 0..call.lengths().len() {
-                let mut count = call.lengths()[list].div_ceil(2);
+                let mut count = call.lengths()[list];
                 while count > 0 {
                     let mut at = 0;
                     while at + count <= call.lengths()[list] && Instant::now() < end {

@@ -13,3 +13,5 @@ pub mod BitLaws
 pub mod Orders
 pub mod LogSteps
 pub mod Readings
+pub mod WriteLaws
+pub mod Mandatories

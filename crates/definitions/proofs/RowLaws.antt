@@ -5,7 +5,7 @@ use native.Mathlib.Omega.{arith}
 use mathlib.Core.Path.{_≡_, refl}
 use mathlib.Core.List.{List, [], _∷_, _++_}
 use mathlib.Core.Option.{none, some}
-use mathlib.Core.Bool.{Bool, true, false, _&&_, _||_, not, and-eq-true-iff}
+use mathlib.Core.Bool.{Bool, true, false, _&&_, _||_, not, and-eq-true-iff, false≢true}
 use lib.ListN.{length}
 use lib.Dec.{leb, ltb, eqb, eqb·suc-zero}
 use borrow.Author.Tests.{eqb-true, leb-true}
@@ -83,3 +83,45 @@ listed-from j used (r ∷ rs) iei k p q = go (ltb j mostPlaces && goodRow used r
 pub listed : (t : List Row) (iei k : ℕ) → firstBad t ≡ none → placeOf t iei ≡ some k → Listed t iei k
 unfolding firstBad placeOf
 listed t iei k p q = let h = listed-from 0 [] t iei k p q in let e : k ≡ h .0 = omega arith in rw e (h .2)
+
+-- what the check of a row gives: it lists an IEI and has a kind, and each IEI that it lists is one of its form
+pub record Passes (r : Row) : Type 0 where
+  pub listing : 1 ≤ r .count
+  pub kind : 1 ≤ r .kinds
+  pub each : (iei : ℕ) → among iei (ieis r) ≡ true → Bears (form r) iei
+
+row-passes : (used : List ℕ) (r : Row) → goodRow used r ≡ true → Passes r
+unfolding goodRow form
+row-passes used r h =
+    by (leb 1 (r .count)) (leb (r .count) 4) (leb (r .code) 3) (not (eqb (r .code) 1) || leb (r .size) 255) (leb (r .least) 65538) (leb 1 (r .kinds))
+    (leb (r .kinds) 255 && (allGood (eqb (r .code) 0) (ieis r) && fresh used (ieis r))) refl refl h
+  where
+    by : (a b c d e f g : Bool) → leb 1 (r .count) ≡ a → leb 1 (r .kinds) ≡ f → (a && (b && (c && (d && (e && (f && g)))))) ≡ true → Passes r
+    by false b c d e f g p q x = absurd (false≢true x)
+    by true false c d e f g p q x = absurd (false≢true x)
+    by true true false d e f g p q x = absurd (false≢true x)
+    by true true true false e f g p q x = absurd (false≢true x)
+    by true true true true false f g p q x = absurd (false≢true x)
+    by true true true true true false g p q x = absurd (false≢true x)
+    by true true true true true true g p q x =
+        record {
+          listing = leb-true 1 (r .count) p;
+          kind = leb-true 1 (r .kinds) q;
+          each = λ iei a. bears (r .code) (r .size) iei (good-of (eqb (r .code) 0) iei (ieis r) (row-good used r h) a);
+        }
+
+passes-from : (j : ℕ) (used : List ℕ) (t : List Row) (k : ℕ) → firstBadFrom j used t ≡ none → k < length t → Passes (rowAt t k)
+unfolding firstBadFrom rowAt
+passes-from j used [] k p h = absurd (omega arith)
+passes-from j used (r ∷ rs) k p h = go (ltb j mostPlaces && goodRow used r) refl p k h (passes-from (suc j) (ieis r ++ used) rs)
+  where
+    go : (b : Bool) → (ltb j mostPlaces && goodRow used r) ≡ b → pick b (firstBadFrom (suc j) (ieis r ++ used) rs) (some j) ≡ none → (k : ℕ) → k < length (r ∷ rs)
+        → ((k : ℕ) → firstBadFrom (suc j) (ieis r ++ used) rs ≡ none → k < length rs → Passes (rowAt rs k)) → Passes (rowAt (r ∷ rs) k)
+    go false e p k h n = let z : _≡_ {A = ℕ} 0 1 = cc in absurd (omega arith)
+    go true e p zero h n = row-passes used r (both (ltb j mostPlaces) (goodRow used r) e .1)
+    go true e p (suc k) h n = n k p (omega arith)
+
+-- each row of a table that passes
+pub passes : (t : List Row) (k : ℕ) → firstBad t ≡ none → k < length t → Passes (rowAt t k)
+unfolding firstBad
+passes t k p h = passes-from 0 [] t k p h

@@ -9,12 +9,12 @@ use mathlib.Core.Option.{Option, none, some, Option·getD}
 use mathlib.Core.Bool.{Bool, true, false, _&&_}
 use native.Mathlib.Nat.{suc-add, add-suc, add-zero, zero-add}
 use lib.Dec.{eqb, ltb, leb}
-use borrow.Author.Tests.{ltb-true, leb-true, leb-false, ne-eqb}
+use borrow.Author.Tests.{ltb-true, ltb-false, leb-true, leb-false, eq-eqb, ne-eqb}
 use lib.ListN.{length, getD, take, drop, length-drop, length-take, List·getD-eq-default}
 use lib.Seq.{drop-drop, drop-nil, getD-take, getD-drop}
-use Rattle.definitions.specs.Rows.{Row, Form, half, fixed, tlv, tlv-e, form, width, rowOf, rowsF, rowsOf, rowAt, ieis, formOf, goodRow, mostPlaces, firstBadFrom, firstBad, placeOf, ieiOf, noPlace, indexEntry, indexFrom, index, placeIn}
-use Rattle.definitions.specs.Basic.{pick}
-use Rattle.definitions.proofs.RowLaws.{Bears, both, listed}
+use Rattle.definitions.specs.Rows.{Row, Form, half, fixed, tlv, tlv-e, width, rowOf, rowsF, rowsOf, rowAt, ieis, form, formOf, firstIei, goodRow, mostPlaces, firstBadFrom, firstBad, placeOf, ieiOf, noPlace, indexEntry, indexFrom, index, placeIn}
+use Rattle.definitions.specs.Basic.{pick, among}
+use Rattle.definitions.proofs.RowLaws.{Bears, both, listed, passes}
 use Rattle.definitions.specs.Mandatory.{MandatoryRow, lv-e, mandatoryRowsF, mandatoryRowsOf, mandatoryRowAt, mandatoryFormOf}
 
 -- a number past the end
@@ -205,3 +205,24 @@ iei-octet x h = go (leb 128 x)
     go : (b : Bool) → pick b (x / 16 * 16) x < 256
     go true = omega arith
     go false = h
+
+-- the first IEI of a place, in a table that passes, is one of its form
+first-among : (s : List ℕ) → 1 ≤ length s → among (getD s 0 0) s ≡ true
+unfolding among
+first-among [] h = absurd (omega arith)
+first-among (x ∷ xs) h = rw (eq-eqb x x refl)
+
+pub first-bears : (table : List ℕ) (k : ℕ) → firstBad (rowsOf table) ≡ none → k < length (rowsOf table)
+    → Bears (form (rowAt (rowsOf table) k)) (firstIei (rowsOf table) k)
+unfolding firstIei rowOf
+first-bears table k p h =
+    let g = passes (rowsOf table) k p h in
+    let w : 9 * k + 8 < length table = by (ltb (9 * k + 8) (length table)) refl (g .kind) in
+    let c : 1 ≤ getD table (9 * k) 0 = omega (arith, g .listing, count-is table k) in
+    g .each _ (first-among (ieis (rowAt (rowsOf table) k)) (omega (arith, iei-count table k)))
+  where
+    by : (b : Bool) → ltb (9 * k + 8) (length table) ≡ b → 1 ≤ rowAt (rowsOf table) k .kinds → 9 * k + 8 < length table
+    by true e g = ltb-true (9 * k + 8) (length table) e
+    by false e g =
+        let z : rowAt (rowsOf table) k .kinds ≡ 0 = ap (λ (r : Row). r .kinds) (row-at table k) ∙ past (9 * k) table 8 (ltb-false (9 * k + 8) (length table) e) in
+        absurd (omega arith)

@@ -8,6 +8,7 @@ use lib.ListN.{length, getD, take, drop}
 use lib.Dec.{ltb, leb, eqb}
 use Rattle.definitions.specs.Basic.{pick, isNone, receivable, Answer, answer, refusal, refuse, refuseAt, unless, Used, content, mostOctets, over}
 use Rattle.definitions.specs.Octets.{numberAt}
+use Rattle.definitions.specs.Tables.{mandatoryTableOf}
 use Rattle.definitions.specs.Values.{Octets, Value, valueAt, present, octetsAt, firstFrom, badRows, valuesTooLong}
 
 pub data MandatoryForm : Type 0 where
@@ -156,6 +157,14 @@ mandatoryReading table lenient part rows =
     (λ a. record { said = a; rows = rows })
     (record { said = answer 0 (o .read ∷ o .notes); rows = over (o .rows) rows })
 
+-- the same by table number: refusal 5, checked first, where there is none
+unfoldable pub mandatoryReadingBy : ℕ → Bool → List ℕ → List ℕ → RowsRead
+mandatoryReadingBy n lenient part rows =
+    elim (mandatoryTableOf n) [
+      | none ↦ record { said = answer 5 []; rows = rows }
+      | some table ↦ mandatoryReading table lenient part rows
+    ]
+
 -- ---- writing
 
 -- the four bits of a half: a set octet has them alone; of a received one the low half has the low four, the high half the top
@@ -218,3 +227,11 @@ mandatoryWriting table rows received set output =
     ∷ []))
     (λ a. record { said = a; output = output })
     (record { said = answer 0 (length w ∷ []); output = over w output })
+
+-- the same by table number, with refusal 5 as reading has it
+unfoldable pub mandatoryWritingBy : ℕ → List ℕ → List ℕ → Used → List ℕ → RowsWrote
+mandatoryWritingBy n rows received set output =
+    elim (mandatoryTableOf n) [
+      | none ↦ record { said = answer 5 []; output = output }
+      | some table ↦ mandatoryWriting table rows received set output
+    ]

@@ -230,6 +230,17 @@ tableOf (suc (suc (suc (suc (suc zero))))) = some optional5
 tableOf (suc (suc (suc (suc (suc (suc zero)))))) = some optional6
 tableOf (suc (suc (suc (suc (suc (suc (suc n))))))) = none
 
+-- the mandatory rows by the same numbers: P has none
+unfoldable pub mandatoryTableOf : ℕ → Option (List ℕ)
+mandatoryTableOf zero = some []
+mandatoryTableOf (suc zero) = some mandatory1
+mandatoryTableOf (suc (suc zero)) = some mandatory2
+mandatoryTableOf (suc (suc (suc zero))) = some mandatory3
+mandatoryTableOf (suc (suc (suc (suc zero)))) = some mandatory4
+mandatoryTableOf (suc (suc (suc (suc (suc zero))))) = some mandatory5
+mandatoryTableOf (suc (suc (suc (suc (suc (suc zero)))))) = some mandatory6
+mandatoryTableOf (suc (suc (suc (suc (suc (suc (suc n))))))) = none
+
 -- the start number of the long form for all of them (TS 24.007, 11.2.4: leading bits 0111 for the 5GS families)
 abbrev pub startOf : ℕ
 startOf = 0x70

@@ -7,6 +7,7 @@ use lib.ListN.{length, getD}
 use lib.Dec.{ltb}
 use Rattle.definitions.specs.Basic.{pick, isNone, among, concat, Answer, answer, refusal, refuse, refuseAt, unless, Used, content, tooLong, mostLog, over}
 use Rattle.definitions.specs.Rows.{Row, Form, half, fixed, tlv, tlv-e, rowsOf, rowAt, form, placeOf, firstIei, firstBad}
+use Rattle.definitions.specs.Tables.{tableOf}
 use Rattle.definitions.specs.Logs.{Placed, knownIei, notKnown, ignored, keptList, orderList, orEmpty}
 use Rattle.definitions.specs.Values.{Octets, Value, valueAt, present, octetsAt, firstFrom, badRows, unfitAt, valuesTooLong}
 
@@ -119,3 +120,11 @@ writing table rows received set order kept output =
     let m : Message = record { table = rowsOf table; rows = rows; received = received; set = set; order = order; kept = kept } in
     unless (refusal (writingChecks m output)) (λ a. record { said = a; output = output })
     (record { said = answer 0 (length (octetsFor m) ∷ []); output = over (octetsFor m) output })
+
+-- the same by table number: refusal 5, checked first, where there is none
+unfoldable pub writingBy : ℕ → List ℕ → List ℕ → Used → Used → Used → List ℕ → Wrote
+writingBy n rows received set order kept output =
+    elim (tableOf n) [
+      | none ↦ record { said = answer 5 []; output = output }
+      | some table ↦ writing table rows received set order kept output
+    ]

@@ -78,7 +78,7 @@ pub fn iei_of(x: u8) -> u8
 }
 
 // The value rule: an empty value, or one whose first octet's low three bits are in the set.
-fn receivable(kinds: u32, value: &[u8]) -> bool
+pub fn receivable(kinds: u32, value: &[u8]) -> bool
     ensures { λ r. ⌜ r ≡ receivable kinds (now (value .entry)) ⌝ }
 {
     if value.len() == 0 {

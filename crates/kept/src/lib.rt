@@ -2,6 +2,7 @@
 // and how many of its octets are used.
 use octets::MOST_OCTETS;
 use octets::part;
+use octets::put_slice;
 ghost use mathlib.Core.Path.{_≡_};
 ghost use mathlib.Core.List.{_∷_};
 ghost use Prim.Native.Nat.{_+_, _*_, _%_, _≤_, _<_};
@@ -283,25 +284,13 @@ fn put_count(out: &mut [u8], n: usize) -> usize
     3
 }
 
-// Octets into the front of a buffer that has room for them.
-fn put_octets(out: &mut [u8], octets: &[u8])
-    requires { ⌜ length (now octets) ≤ length (now out) ⌝ }
-    ensures { λ r. ⌜ now (out .exit) ≡ over (now (octets .entry)) (now (out .entry)) ⌝ }
-{
-    let mut i = 0;
-    while i < octets.len() {
-        out[i] = octets[i];
-        i += 1;
-    }
-}
-
 // An IEI and the octets after it into the front of a buffer that has room for them.
 fn put_element(out: &mut [u8], iei: u8, octets: &[u8])
     requires { ⌜ length (now octets) < length (now out) ⌝ }
     ensures { λ r. ⌜ now (out .exit) ≡ over (iei ∷ now (octets .entry)) (now (out .entry)) ⌝ }
 {
     out[0] = iei;
-    put_octets(&mut out[1..], octets);
+    put_slice(&mut out[1..], octets);
 }
 
 // An element behind its count.

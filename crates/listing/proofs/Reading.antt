@@ -4,7 +4,7 @@ use Prim.Native.Nat.{ℕ, _+_, _*_, _≤_, _<_}
 use native.Mathlib.Omega.{arith}
 use mathlib.Core.Path.{_≡_, refl, ap, sym, _∙_}
 use mathlib.Core.List.{List, [], _∷_, _++_}
-use mathlib.Core.Bool.{false}
+use mathlib.Core.Bool.{true, false}
 use mathlib.Core.Option.{none}
 use lib.ListN.{length}
 use borrow.Author.Tests.{lt-ltb, le-ltb}
@@ -21,7 +21,7 @@ use Rattle.elements.specs.declared.next.NextElement.{NextElement}
 use Rattle.elements.proofs.Nexts.{from, Nexts, from-start}
 use Rattle.listing.specs.Puts.{Put}
 use Rattle.listing.specs.Lines.{lineOf}
-use Rattle.listing.specs.Parts.{stepAt, partedP, wholeOf}
+use Rattle.listing.specs.Parts.{stepAt, partedP, wholeOf, isCut, isRefused}
 use Rattle.listing.specs.declared.Whole.{Whole}
 use Rattle.listing.proofs.Puts.{joined, at-text, put-none, put-long}
 use Rattle.listing.proofs.Lines.{line-is, line-short}
@@ -181,3 +181,11 @@ module _ (part : List ℕ) where
           ∙ ap (λ (p : Parted). heading ++ listed (length part) p) (sym e)
           ∙ listing-read l
       by (cutShort b y n) e q = let z : _≡_ {A = ℕ} 0 1 = cc in absurd (omega arith)
+
+  -- ---- whether it is refused
+
+  pub refused-long : 4096 < length part → true ≡ isRefused part
+  refused-long l = rw (lt-ltb 4096 (length part) l)
+
+  pub refused-read : {w : Whole} → length part ≤ 4096 → w ≡ wholeOf (partedP part) → isCut w ≡ isRefused part
+  refused-read l e = rw (le-ltb 4096 (length part) l) (ap isCut e)

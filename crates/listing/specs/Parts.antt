@@ -1,13 +1,14 @@
 -- A part under table P, the option off: its steps, whether it is cut short, and the answer of a listing.
 use Prim.Native.Nat.{ℕ}
 use mathlib.Core.List.{List}
-use mathlib.Core.Bool.{false}
+use mathlib.Core.Bool.{Bool, true, false}
 use lib.ListN.{length, drop}
-use lib.Dec.{leb}
+use lib.Dec.{leb, ltb}
 use Rattle.definitions.specs.Basic.{pick, over}
 use Rattle.definitions.specs.Rows.{rowsOf}
 use Rattle.definitions.specs.Tables.{tableP, startOf}
 use Rattle.definitions.specs.Elements.{Parted, elements, cutShort, step, parted}
+use Rattle.definitions.specs.Listing.{mostListed}
 use Rattle.elements.specs.Steps.{stepOf, metOf}
 use Rattle.elements.specs.declared.element.State.{State}
 use Rattle.elements.specs.declared.element.Step.{Step}
@@ -33,3 +34,11 @@ listedAs text out = pick (leb (length text) (length out)) (Listed.Written (lengt
 -- the lent buffer then
 abbrev pub outAs : List ℕ → List ℕ → List ℕ
 outAs text out = pick (leb (length text) (length out)) (over text out) out
+
+abbrev pub isCut : Whole → Bool
+isCut Whole.Elements = false
+isCut (Whole.Cut a x n) = true
+
+-- whether a part is refused: too long, or cut short
+abbrev pub isRefused : List ℕ → Bool
+isRefused part = pick (ltb mostListed (length part)) true (isCut (wholeOf (partedP part)))

@@ -17,7 +17,7 @@ ghost use lib.ListN.{length};
 ghost use Rattle.definitions.specs.Elements.{elementsOf};
 ghost use Rattle.definitions.specs.Listing.{lines, listing};
 ghost use Rattle.listing.specs.Puts.{Put};
-ghost use Rattle.listing.specs.Parts.{stepAt, partedP, wholeOf, listedAs, outAs};
+ghost use Rattle.listing.specs.Parts.{stepAt, partedP, wholeOf, listedAs, outAs, isRefused};
 
 const MOST_LISTED: usize = 4096;
 
@@ -125,4 +125,17 @@ pub fn list_part(octets: &[u8], out: &mut [u8]) -> Listed
     }
     put_text(octets, out);
     Listed::Written(n)
+}
+
+// Whether a part is refused, so that its listing is the header and one line: it is too long, or cut short.
+pub fn is_refused(octets: &[u8]) -> bool
+    ensures { λ r. ⌜ r ≡ isRefused (now (octets .entry)) ⌝ }
+{
+    if octets.len() > MOST_LISTED {
+        return true;
+    }
+    match read_whole(octets) {
+        Whole::Elements => false,
+        Whole::Cut(_, _, _) => true,
+    }
 }

@@ -6,6 +6,10 @@ ghost use Rattle.definitions.specs.Basic.{over};
 ghost use Rattle.definitions.specs.Octets.{remaining, run, numberAt};
 ghost use Rattle.octets.specs.Answers.{runOf, movedOf, octetOf, pairOf, fourOf, octetsOf};
 
+mod copying;
+
+pub use copying::put_slice;
+
 // The most octets of a part, of received or set octets, and of an element.
 pub const MOST_OCTETS: usize = 65_535;
 
@@ -145,20 +149,6 @@ impl Cursor {
         let high = big16(s[at], s[at + 1]);
         let low = big16(s[at + 2], s[at + 3]);
         Four::Is(big32(high, low), Cursor { at: at + 4 })
-    }
-}
-
-// Octets into the front of a lent buffer, as many as there is room for; those behind are as they were.
-pub fn put_slice(out: &mut [u8], octets: &[u8])
-    ensures { λ r. ⌜ now (out .exit) ≡ over (take (length (now (out .entry))) (now (octets .entry))) (now (out .entry)) ⌝ }
-{
-    let mut i = 0;
-    while i < octets.len() {
-        if i >= out.len() {
-            return;
-        }
-        out[i] = octets[i];
-        i += 1;
     }
 }
 

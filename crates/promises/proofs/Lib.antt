@@ -5,4 +5,8 @@ pub mod Rows
 pub mod Walk
 pub mod RoundTrip
 pub mod Condition3
+pub mod MandatoryRows
+pub mod MandatoryReads
+pub mod MandatoryBack
+pub mod Mandatory
 pub mod Examples

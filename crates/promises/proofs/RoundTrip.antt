@@ -55,7 +55,7 @@ unfolding placeRowsFrom
 rows-length t es j zero = refl
 rows-length t es j (suc n) = simp length-append (omega (arith, row-length t es j, rows-length t es (suc j) n))
 
-over-length : (front l : List ℕ) → length front ≤ length (over front l)
+pub over-length : (front l : List ℕ) → length front ≤ length (over front l)
 unfolding over
 over-length front l = simp length-append (omega arith)
 
@@ -88,7 +88,7 @@ order-list t es = go (plainFrom t 0 es)
     go true = order-back []
     go false = rw (order-log es) (order-back (map placedOf es))
 
-values-long : (part set : List ℕ) → length part ≤ mostOctets → valuesTooLong part (record { buffer = set; used = 0 }) ≡ false
+pub values-long : (part set : List ℕ) → length part ≤ mostOctets → valuesTooLong part (record { buffer = set; used = 0 }) ≡ false
 unfolding valuesTooLong tooLong
 values-long part set h = rw (le-ltb mostOctets (length part) h, le-ltb (length set) 0 (omega arith))
 

@@ -10,7 +10,7 @@ use lib.Dec.{eqb}
 use Rattle.definitions.specs.Basic.{isNone, among, concat}
 use Rattle.definitions.specs.Rows.{rowOf, rowsF, rowsOf, ieis, goodIei, allGood, fresh, goodRow, firstBadFrom, firstBad, placeFrom, placeOf, indexEntry, indexFrom, index, placeIn}
 use Rattle.definitions.specs.Mandatory.{mandatoryRowsF, mandatoryRowsOf, isHalf, nextIs, goodMandatory, firstBadMandatoryFrom, firstBadMandatory}
-use Rattle.definitions.specs.Tables.{tableOf, row, plain, tableP, optional1, optional2, optional3, optional4, optional5, optional6, mandatory1, mandatory2, mandatory3, mandatory4, mandatory5, mandatory6}
+use Rattle.definitions.specs.Tables.{tableOf, mandatoryTableOf, row, plain, tableP, optional1, optional2, optional3, optional4, optional5, optional6, mandatory1, mandatory2, mandatory3, mandatory4, mandatory5, mandatory6}
 use Rattle.definitions.proofs.RowLaws.{both}
 use Rattle.definitions.proofs.TableLaws.{index-place}
 use Rattle.real.specs.Real.{index0, index1, index2, index3, index4, index5, index6, realOf, realIndexOf, realMandatoryOf}
@@ -69,7 +69,7 @@ real (suc (suc (suc (suc (suc (suc (suc n))))))) = rule [] (realIndexOf 7) refl
 
 -- the mandatory rows of each pass their check
 pub real-mandatory : (n : ℕ) → firstBadMandatory (mandatoryRowsOf (realMandatoryOf n)) ≡ none
-unfolding realMandatoryOf concat plain mandatoryRowsF mandatoryRowsOf isHalf nextIs goodMandatory firstBadMandatoryFrom firstBadMandatory mandatory1 mandatory2 mandatory3 mandatory4 mandatory5 mandatory6
+unfolding mandatoryTableOf concat plain mandatoryRowsF mandatoryRowsOf isHalf nextIs goodMandatory firstBadMandatoryFrom firstBadMandatory mandatory1 mandatory2 mandatory3 mandatory4 mandatory5 mandatory6
 real-mandatory zero = refl
 real-mandatory (suc zero) = refl
 real-mandatory (suc (suc zero)) = refl
@@ -103,3 +103,15 @@ no-table (suc (suc (suc (suc zero)))) a b c d e f g = absurd (e refl)
 no-table (suc (suc (suc (suc (suc zero))))) a b c d e f g = absurd (f refl)
 no-table (suc (suc (suc (suc (suc (suc zero)))))) a b c d e f g = absurd (g refl)
 no-table (suc (suc (suc (suc (suc (suc (suc n))))))) a b c d e f g = refl
+
+-- nor mandatory ones
+pub mandatory-further : (n : ℕ) → (n ≡ 0 → ⊥) → (n ≡ 1 → ⊥) → (n ≡ 2 → ⊥) → (n ≡ 3 → ⊥) → (n ≡ 4 → ⊥) → (n ≡ 5 → ⊥) → (n ≡ 6 → ⊥) → mandatoryTableOf n ≡ none
+unfolding mandatoryTableOf
+mandatory-further zero a b c d e f g = absurd (a refl)
+mandatory-further (suc zero) a b c d e f g = absurd (b refl)
+mandatory-further (suc (suc zero)) a b c d e f g = absurd (c refl)
+mandatory-further (suc (suc (suc zero))) a b c d e f g = absurd (d refl)
+mandatory-further (suc (suc (suc (suc zero)))) a b c d e f g = absurd (e refl)
+mandatory-further (suc (suc (suc (suc (suc zero))))) a b c d e f g = absurd (f refl)
+mandatory-further (suc (suc (suc (suc (suc (suc zero)))))) a b c d e f g = absurd (g refl)
+mandatory-further (suc (suc (suc (suc (suc (suc (suc n))))))) a b c d e f g = refl

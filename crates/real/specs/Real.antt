@@ -3,7 +3,7 @@ use Prim.Native.Nat.{ℕ, zero, suc}
 use mathlib.Core.List.{List, [], _∷_}
 use mathlib.Core.Option.{Option·getD}
 use Rattle.definitions.specs.Basic.{concat}
-use Rattle.definitions.specs.Tables.{tableOf, mandatory1, mandatory2, mandatory3, mandatory4, mandatory5, mandatory6}
+use Rattle.definitions.specs.Tables.{tableOf, mandatoryTableOf}
 use Rattle.rows.specs.Marks.{blank}
 
 -- table P
@@ -178,12 +178,5 @@ realIndexOf (suc (suc (suc (suc (suc (suc zero)))))) = index6
 realIndexOf (suc (suc (suc (suc (suc (suc (suc n))))))) = blank
 
 -- mandatory rows; P has none
-unfoldable pub realMandatoryOf : ℕ → List ℕ
-realMandatoryOf zero = []
-realMandatoryOf (suc zero) = mandatory1
-realMandatoryOf (suc (suc zero)) = mandatory2
-realMandatoryOf (suc (suc (suc zero))) = mandatory3
-realMandatoryOf (suc (suc (suc (suc zero)))) = mandatory4
-realMandatoryOf (suc (suc (suc (suc (suc zero))))) = mandatory5
-realMandatoryOf (suc (suc (suc (suc (suc (suc zero)))))) = mandatory6
-realMandatoryOf (suc (suc (suc (suc (suc (suc (suc n))))))) = []
+abbrev pub realMandatoryOf : ℕ → List ℕ
+realMandatoryOf n = Option·getD (mandatoryTableOf n) []

@@ -129,7 +129,7 @@ module _ (rs : List Row) (ix₀ : List ℕ) where
 
 -- ---- mandatory rows
 
-mandatory-drop : (rs : List MandatoryRow) (k : ℕ) → k < length rs → drop k rs ≡ mandatoryRowAt rs k ∷ drop (suc k) rs
+pub mandatory-drop : (rs : List MandatoryRow) (k : ℕ) → k < length rs → drop k rs ≡ mandatoryRowAt rs k ∷ drop (suc k) rs
 unfolding mandatoryRowAt
 mandatory-drop [] k h = absurd (omega arith)
 mandatory-drop (r ∷ rs) zero h = refl

@@ -16,14 +16,14 @@ list-part-requires c κs = search needs
 enum-known-len : tie.Need-enum-known-len
 enum-known-len c = search needs
 
-slice-reshare-prefix-write-all : tie.Need-slice-reshare-prefix-write-all
-slice-reshare-prefix-write-all c = let w = written-fits (length (listing (c .before .before .before .before .before .before .before .before .before .args .part .now))) (length (c .before .before .before .before .before .before .before .before .before .args .text .now)) (sym (c .before .len .given .1) ∙ c .before .before .before .before .before .list-part .ensures .0) in omega arith
+slice-reshare-prefix-write-text : tie.Need-slice-reshare-prefix-write-text
+slice-reshare-prefix-write-text c = let w = written-fits (length (listing (c .before .before .before .before .before .before .before .before .before .args .part .now))) (length (c .before .before .before .before .before .before .before .before .before .args .text .now)) (sym (c .before .len .given .1) ∙ c .before .before .before .before .before .list-part .ensures .0) in omega arith
 
-slice-aggregate-write-all : tie.Need-slice-aggregate-write-all
-slice-aggregate-write-all c = sym (length-take-le _ _ (slice-reshare-prefix-write-all (c .before)))
+slice-aggregate-write-text : tie.Need-slice-aggregate-write-text
+slice-aggregate-write-text c = sym (length-take-le _ _ (slice-reshare-prefix-write-text (c .before)))
 
-write-all-requires : tie.Need-write-all-requires
-write-all-requires c κs = search needs
+write-text-requires : tie.Need-write-text-requires
+write-text-requires c κs = search needs
 
 enum-told : tie.Need-enum-told
 enum-told c = search needs
@@ -46,9 +46,9 @@ write-listing-spec =
     (tie.spec
     list-part-requires
     enum-known-len
-    slice-reshare-prefix-write-all
-    slice-aggregate-write-all
-    write-all-requires
+    slice-reshare-prefix-write-text
+    slice-aggregate-write-text
+    write-text-requires
     enum-told
     same-length
     returns

@@ -1,0 +1,8 @@
+-- Laws of this crate's definitions.
+pub mod Finding
+pub mod Noting
+pub mod Rowing
+pub mod Judging
+pub mod Filling
+pub mod Checks
+pub mod SameAnswers

@@ -1,0 +1,4 @@
+-- What the answers of this crate are by the definitions.
+pub mod Founds
+pub mod Notes
+pub mod Reads

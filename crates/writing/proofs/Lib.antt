@@ -1,0 +1,10 @@
+-- Laws that the proofs of this crate cite.
+pub mod Putting
+pub mod Cursor
+pub mod Places
+pub mod LogSteps
+pub mod Tallying
+pub mod Walking
+pub mod Encoding
+pub mod SameAnswers
+pub mod WrittenBack

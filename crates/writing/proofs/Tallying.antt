@@ -1,0 +1,214 @@
+-- Both logs measured an entry at a time: with what is left the tally is that of the whole log.
+-- Each step moves an entry from what is left into the tally; a log that is malformed further on is malformed.
+use Prim.Native.Nat.{ℕ, suc, _+_, _-_, _*_, _/_, _%_, _^_, _≤_, _<_}
+use native.Mathlib.Omega.{arith}
+use native.Mathlib.Numerals.{add-one}
+use native.Mathlib.Nat.{div-add-mod', zero-div}
+use mathlib.Core.Path.{_≡_, refl, ap, sym, _∙_}
+use mathlib.Core.List.{List, [], _∷_}
+use mathlib.Core.Bool.{Bool, true, false, _||_}
+use mathlib.Core.Option.{Option, none, some}
+use borrow.Author.Tests.{lt-ltb}
+use lib.ListN.{length, take, drop, length-take, length-drop, length-append}
+use lib.Dec.{eqb}
+use Rattle.definitions.specs.Basic.{pick, bit, among, concat}
+use Rattle.definitions.specs.Rows.{Row, form, rowAt, rowsOf, firstBad, placeOf, placeIn}
+use Rattle.definitions.specs.Elements.{including}
+use Rattle.definitions.specs.Values.{valueAt, present, octetsAt, firstFrom}
+use Rattle.definitions.specs.Logs.{Placed, knownIei, notKnown, ignored, Reason, Count, put, keptList, orderEntry, orderList}
+use Rattle.definitions.specs.Writing.{Filled, encoded, elementAt, logged}
+use Rattle.definitions.proofs.BitLaws.{bit-including}
+use Rattle.definitions.proofs.Logs.{kept-nil}
+use Rattle.definitions.proofs.Orders.{order-nil}
+use Rattle.definitions.proofs.RowLaws.{listed}
+use Rattle.definitions.proofs.TableLaws.{few-places, index-place}
+use Rattle.definitions.proofs.WriteLaws.{loggedLength}
+use Rattle.seen.specs.Seen.{setOf, seenOf, includingPlace}
+use Rattle.seen.specs.declared.Seen.{Seen}
+use Rattle.writing.specs.Walks.{IndexIs}
+use Rattle.writing.specs.Sizes.{placeLength, mostIe, knownLength, knownSet, entryLength, entrySet, Tallied, Tells, LoggedBy, KeptBy}
+use Rattle.writing.specs.declared.sizes.Tally.{Tally}
+use Rattle.writing.specs.declared.sizes.Logged.{Logged}
+use Rattle.writing.specs.declared.sizes.Kept.{Kept}
+use Rattle.writing.proofs.Places.{encoded-length}
+use Rattle.writing.proofs.LogSteps.{KeptEntry, OrderEntry}
+
+-- ---- an entry
+
+-- what an index says of an IEI is what the table says
+pub place-found : (table entries : List ℕ) (iei : ℕ) → firstBad (rowsOf table) ≡ none → IndexIs table entries → iei < 256 → placeIn entries iei ≡ placeOf (rowsOf table) iei
+place-found table entries iei p e h = ap (λ (x : List ℕ). placeIn x iei) e ∙ index-place (rowsOf table) p iei h
+
+pub place-low : (t : List Row) (iei k : ℕ) → firstBad t ≡ none → placeOf t iei ≡ some k → (k < length t) × (length t ≤ 128)
+place-low t iei k p e = (listed t iei k p e .inside, few-places t p)
+
+-- the set with a place in it
+set-of : (n : ℕ) → setOf (seenOf n) ≡ n
+set-of n = div-add-mod' n (2 ^ 64)
+
+set-with : (s : Seen) (k : ℕ) {r : Seen} → k < 128 → r ≡ seenOf (includingPlace k (setOf s)) → setOf r ≡ including k (setOf s)
+unfolding includingPlace
+set-with s k h e = ap setOf e ∙ set-of _ ∙ rw (lt-ltb k 128 h)
+
+module _ (m : Filled) where
+  -- an element is as long under one IEI as under another
+  pub any-iei : (k iei : ℕ) → length (elementAt m k iei) ≡ placeLength m k
+  unfolding elementAt placeLength
+  any-iei k iei = by (present (valueAt (m .rows) k))
+    where
+      s : List ℕ
+      s = octetsAt (m .octets) (valueAt (m .rows) k)
+
+      by : (b : Bool) → length (pick b (encoded (form (rowAt (m .table) k)) iei s) []) ≡ length (pick b (encoded (form (rowAt (m .table) k)) 0 s) [])
+      by true = encoded-length (form (rowAt (m .table) k)) iei s ∙ sym (encoded-length (form (rowAt (m .table) k)) 0 s)
+      by false = refl
+
+  logged-known : (i : ℕ) (o : Option ℕ) (n : ℕ) → elim o [ none ↦ n | some k ↦ length (elementAt m k i) + n ] ≡ knownLength m o + n
+  logged-known i none n = omega arith
+  logged-known i (some k) n = ap (λ (j : ℕ). j + n) (any-iei k i)
+
+  logged-more : (p : Placed) (ps : List Placed) → loggedLength m (p ∷ ps) ≡ entryLength m p + loggedLength m ps
+  unfolding loggedLength entryLength
+  logged-more (knownIei i) ps = logged-known i (placeOf (m .table) i) (loggedLength m ps)
+  logged-more notKnown ps = omega arith
+  logged-more (ignored r) ps = omega arith
+
+  -- with an entry more
+  pub tallied-known : (t : Tally) (iei k : ℕ) {n : ℕ} {s : Seen} → placeOf (m .table) iei ≡ some k → k < 128 → n ≡ placeLength m k → n ≤ mostIe
+      → s ≡ seenOf (includingPlace k (setOf (t .seen))) → Tallied m (knownIei iei) t (record { octets = t .octets + n; seen = s })
+  unfolding entryLength entrySet
+  tallied-known t iei k e h a b c =
+      record { octets = rw e (ap (λ (n : ℕ). t .octets + n) a); few = omega arith; set = rw e (set-with (t .seen) k h c) }
+
+  pub tallied-nowhere : (t : Tally) (iei : ℕ) → placeOf (m .table) iei ≡ none → Tallied m (knownIei iei) t t
+  unfolding entryLength entrySet
+  tallied-nowhere t iei e = let z : t .octets ≡ t .octets + 0 = omega arith in record { octets = rw e z; few = omega arith; set = rw e }
+
+  pub tallied-unknown : (t : Tally) → Tallied m notKnown t t
+  unfolding entryLength entrySet
+  tallied-unknown t = record { octets = omega arith; few = omega arith; set = refl }
+
+  pub tallied-ignored : (t : Tally) (r : Reason) → Tallied m (ignored r) t t
+  unfolding entryLength entrySet
+  tallied-ignored t r = record { octets = omega arith; few = omega arith; set = refl }
+
+or-moved : (e a b : Bool) → ((e || a) || b) ≡ (a || (e || b))
+or-moved true true b = refl
+or-moved true false b = refl
+or-moved false a b = refl
+
+places-known : (o : Option ℕ) (js : List ℕ) (j set : ℕ) → (among j (elim o [ none ↦ js | some k ↦ k ∷ js ]) || bit j set) ≡ (among j js || bit j (knownSet set o))
+unfolding among
+places-known none js j set = refl
+places-known (some k) js j set = or-moved (eqb j k) (among j js) (bit j set) ∙ ap (λ (b : Bool). among j js || b) (sym (bit-including j k set))
+
+places-more : (t : List Row) (p : Placed) (ps : List Placed) (j set : ℕ) → (among j (logged t (p ∷ ps)) || bit j set) ≡ (among j (logged t ps) || bit j (entrySet t p set))
+unfolding logged entrySet
+places-more t (knownIei i) ps j set = places-known (placeOf t i) (logged t ps) j set
+places-more t notKnown ps j set = refl
+places-more t (ignored r) ps j set = refl
+
+-- ---- the order log
+
+bit-zero : (k : ℕ) → bit k 0 ≡ false
+unfolding bit
+bit-zero k = let z : 0 / 2 ^ k ≡ 0 = zero-div (2 ^ k) in rw z
+
+pub record Logging (m : Filled) (order : List ℕ) (at : ℕ) (t : Tally) : Type 0 where
+  pub inside : at ≤ length order
+  pub few : t .octets ≤ mostIe * at
+  pub bad : orderList (drop at order) ≡ none → orderList order ≡ none
+  pub good : (qs : List Placed) → orderList (drop at order) ≡ some qs → Tells m order (t .octets) (setOf (t .seen)) qs
+
+module _ (m : Filled) (order : List ℕ) where
+  pub logging-begun : Logging m order 0 (record { octets = 0; seen = record { low = 0; high = 0 } })
+  logging-begun =
+      record {
+        inside = omega arith;
+        few = omega arith;
+        bad = λ e. e;
+        good = λ qs e. record { ps = qs; is = e; sum = omega arith; places = λ k. nothing k (among k (logged (m .table) qs)) };
+      }
+    where
+      or-false : (b : Bool) → (b || false) ≡ b
+      or-false true = refl
+      or-false false = refl
+
+      nothing : (k : ℕ) (b : Bool) → (b || bit k 0) ≡ b
+      nothing k b = ap (λ (x : Bool). b || x) (bit-zero k) ∙ or-false b
+
+  module _ (at : ℕ) (t : Tally) (l : Logging m order at t) where
+    pub logging-step : {h : at < length order} {p : Placed} {r : Tally} → OrderEntry order at h p → Tallied m p t r → Logging m order (at + length (orderEntry p)) r
+    unfolding put
+    logging-step {p = p} {r = r} o s =
+        record {
+          inside = o .within;
+          few = omega (arith, o .octet, s .few, l .few);
+          bad = λ e. l .bad (o .splits ∙ rw e);
+          good = λ qs e.
+              let g = l .good (p ∷ qs) (o .splits ∙ rw e) in
+              record {
+                ps = g .ps;
+                is = g .is;
+                sum = omega (arith, s .octets, logged-more m p qs, g .sum);
+                places = λ k. ap (λ (n : ℕ). among k (logged (m .table) qs) || bit k n) (s .set) ∙ sym (places-more (m .table) p qs k (setOf (t .seen))) ∙ g .places k;
+              };
+        }
+
+    pub logging-ended : length order ≤ at → LoggedBy m order (Logged.Is t)
+    logging-ended h = (let e : at ≡ length order = omega (arith, l .inside) in rw e at (l .few), l .good [] (order-nil (drop at order) (simp length-drop (omega arith))))
+
+-- ---- the kept log
+
+pub record Whole (kept : List ℕ) (octets : ℕ) (es : List (List ℕ)) : Type 0 where
+  pub all : List (List ℕ)
+  pub is : keptList kept ≡ some all
+  pub sum : octets + length (concat es) ≡ length (concat all)
+
+pub record Keeping (kept : List ℕ) (at octets : ℕ) : Type 0 where
+  pub inside : at ≤ length kept
+  pub few : octets ≤ at
+  pub bad : keptList (drop at kept) ≡ none → keptList kept ≡ none
+  pub good : (es : List (List ℕ)) → keptList (drop at kept) ≡ some es → Whole kept octets es
+
+module _ (kept : List ℕ) where
+  pub keeping-begun : Keeping kept 0 0
+  keeping-begun = record { inside = omega arith; few = omega arith; bad = λ e. e; good = λ es e. record { all = es; is = e; sum = omega arith } }
+
+  module _ (at octets : ℕ) (l : Keeping kept at octets) where
+    pub keeping-step : {c : Count} → KeptEntry kept at c → Keeping kept (at + (c .took + c .value)) (octets + c .value)
+    unfolding put concat
+    keeping-step {c = c} k =
+        let z : at + (c .took + c .value) ≡ at + c .took + c .value = omega arith in
+        let e : List ℕ = take (c .value) (drop (at + c .took) kept) in
+        let n : length e ≡ c .value = simp (length-take, length-drop) (omega (arith, k .within)) in
+        rw z
+        (record {
+          inside = k .within;
+          few = omega (arith, k .count, l .few);
+          bad = λ q. l .bad (k .splits ∙ rw q);
+          good = λ es q.
+              let g = l .good (e ∷ es) (k .splits ∙ rw q) in
+              record { all = g .all; is = g .is; sum = omega (arith, g .sum, length-append e (concat es)) };
+        })
+
+    pub keeping-ended : length kept ≤ at → KeptBy kept (Kept.Octets octets)
+    unfolding concat
+    keeping-ended h =
+        let g = l .good [] (kept-nil (drop at kept) (simp length-drop (omega arith))) in
+        (omega (arith, l .inside, l .few), g .all, g .is, omega (arith, g .sum))
+
+-- ---- the places
+
+module _ (test : ℕ → Bool) (k n : ℕ) where
+  pub first-here : k < n → test k ≡ true → firstFrom test k (n - k) ≡ some k
+  unfolding firstFrom
+  first-here h e = let z : n - k ≡ suc (n - suc k) = omega arith in rw (z, e)
+
+  pub first-further : k < n → test k ≡ false → firstFrom test (k + 1) (n - (k + 1)) ≡ firstFrom test k (n - k)
+  unfolding firstFrom
+  first-further h e = let z : n - k ≡ suc (n - (k + 1)) = omega arith in rw (z, e, add-one k)
+
+  pub first-over : n ≤ k → firstFrom test k (n - k) ≡ none
+  unfolding firstFrom
+  first-over h = let z : n - k ≡ 0 = omega arith in rw z

@@ -1,0 +1,92 @@
+-- `logged_len` passes an entry a turn: the invariant says that the tally with the entries left is that of the whole log.
+-- The measure is what is left of the log.
+use Prim.Native.Nat.{_+_, _-_}
+use native.Mathlib.Omega.{arith}
+use mathlib.Core.Path.{_≡_, ap, sym, _∙_}
+use mathlib.Core.Option.{none, some}
+use lib.ListN.{length, drop}
+use Rattle.definitions.proofs.Orders.{orderFront}
+use Rattle.definitions.proofs.Lists.{to-end}
+use Rattle.order.specs.Order.{placedAs, frontAs}
+use Rattle.writing.specs.Walks.{filledOf}
+use Rattle.writing.proofs.LogSteps.{OrderEntry, order-split, order-stop}
+use Rattle.writing.proofs.Tallying.{Logging, logging-begun, logging-step, logging-ended}
+use borrow.Author.Needs.{needs}
+use Rattle.writing.proofs.sizes.logged_len.Statement.{statement}
+use Rattle.writing.proofs.sizes.logged_len.Tie as tie
+
+abbrev Inv-loop : tie.InvT-loop
+Inv-loop table index rows received set order at₀ t₀ at t = Logging (filledOf table rows received set) order at t
+
+abbrev μ-loop : tie.MeasureT-loop
+μ-loop table index rows received set order at₀ t₀ at t = length order - at
+
+loop-holds : tie.Need-loop-holds Inv-loop μ-loop
+loop-holds c = logging-begun _ _
+
+sub-front-at : tie.Need-sub-front-at Inv-loop μ-loop
+sub-front-at c = search needs
+
+part-front-at-start : tie.Need-part-front-at-start Inv-loop μ-loop
+part-front-at-start c = search needs
+
+part-front-at-end : tie.Need-part-front-at-end Inv-loop μ-loop
+part-front-at-end c = search needs
+
+front-at-requires : tie.Need-front-at-requires Inv-loop μ-loop
+front-at-requires c κs = search needs
+
+enum-known-entry : tie.Need-enum-known-entry Inv-loop μ-loop
+enum-known-entry c = search needs
+
+-- the entry at the position
+front : (c : tie.After-known-told Inv-loop μ-loop) → orderFront (drop (c .before .before .before .before .before .before .loop .at) (c .before .before .before .before .before .before .before .before .before .before .before .before .before .args .order .now)) ≡ some (placedAs (c .before .entry .given .0 .0))
+front c = sym (ap frontAs (sym (c .before .entry .given .1)) ∙ rw to-end at (c .before .before .before .front-at .ensures))
+
+split : (c : tie.After-known-told Inv-loop μ-loop) → OrderEntry (c .before .before .before .before .before .before .before .before .before .before .before .before .before .args .order .now) (c .before .before .before .before .before .before .loop .at) (c .before .before .before .before .before .loop-test .taken) (placedAs (c .before .entry .given .0 .0))
+split c = order-split (c .before .before .before .before .before .before .before .before .before .before .before .before .before .args .order .now) (c .before .before .before .before .before .before .loop .at) (c .before .before .before .before .before .loop-test .taken) (front c)
+
+with-entry-requires : tie.Need-with-entry-requires Inv-loop μ-loop
+with-entry-requires c κs = (c .before .before .before .before .before .before .before .before .before .before .before .before .before .pre .0, omega (arith, c .before .before .before .before .before .before .loop .inv .few, c .before .before .before .before .before .before .loop .inv .inside, c .before .before .before .before .before .before .before .before .before .before .before .before .before .pre .1))
+
+entry-len-requires : tie.Need-entry-len-requires Inv-loop μ-loop
+entry-len-requires c κs = search needs
+
+add-at : tie.Need-add-at Inv-loop μ-loop
+add-at c = omega (arith, c .entry-len .ensures, split (c .before .before) .within)
+
+loop-less : tie.Need-loop-less Inv-loop μ-loop
+loop-less c = omega (arith, c .entry-len .ensures, split (c .before .before) .octet, split (c .before .before) .within)
+
+loop-again : tie.Need-loop-again Inv-loop μ-loop
+loop-again c = rw (c .entry-len .ensures) (logging-step (filledOf (c .before .before .before .before .before .before .before .before .before .before .before .before .before .before .before .args .table .now) (c .before .before .before .before .before .before .before .before .before .before .before .before .before .before .before .args .rows .now) (c .before .before .before .before .before .before .before .before .before .before .before .before .before .before .before .args .received .now) (c .before .before .before .before .before .before .before .before .before .before .before .before .before .before .before .args .set .now)) (c .before .before .before .before .before .before .before .before .before .before .before .before .before .before .before .args .order .now) (c .before .before .before .before .before .before .before .before .loop .at) (c .before .before .before .before .before .before .before .before .loop .t) (c .before .before .before .before .before .before .before .before .loop .inv) (split (c .before .before)) (c .before .with-entry .ensures))
+
+enum-told : tie.Need-enum-told Inv-loop μ-loop
+enum-told c = search needs
+
+returns : tie.Need-returns Inv-loop μ-loop
+returns c = let e : orderFront (drop (c .before .before .before .before .before .loop .at) (c .before .before .before .before .before .before .before .before .before .before .before .before .args .order .now)) ≡ none = sym (ap frontAs (sym (c .enum-told .given .1)) ∙ rw to-end at (c .before .before .front-at .ensures)) in c .before .before .before .before .before .loop .inv .bad (order-stop (c .before .before .before .before .before .before .before .before .before .before .before .before .args .order .now) (c .before .before .before .before .before .loop .at) (c .before .before .before .before .loop-test .taken) e)
+
+returns-2 : tie.Need-returns-2 Inv-loop μ-loop
+returns-2 c = logging-ended (filledOf (c .before .before .before .before .before .before .before .before .args .table .now) (c .before .before .before .before .before .before .before .before .args .rows .now) (c .before .before .before .before .before .before .before .before .args .received .now) (c .before .before .before .before .before .before .before .before .args .set .now)) (c .before .before .before .before .before .before .before .before .args .order .now) (c .before .loop .at) (c .before .loop .t) (c .before .loop .inv) (c .loop-test .left)
+
+pub logged-len-spec : {M : Type 1} → statement M
+logged-len-spec =
+    tie.close
+    (tie.spec
+    Inv-loop
+    μ-loop
+    loop-holds
+    sub-front-at
+    part-front-at-start
+    part-front-at-end
+    front-at-requires
+    enum-known-entry
+    with-entry-requires
+    entry-len-requires
+    add-at
+    loop-less
+    loop-again
+    enum-told
+    returns
+    returns-2)

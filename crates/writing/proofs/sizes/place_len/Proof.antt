@@ -1,0 +1,41 @@
+-- `place_len` is the length of the place's element.
+-- Of an absent place it is 0; else what its form and the value take.
+use native.Mathlib.Omega.{arith}
+use mathlib.Core.Path.{_≡_, ap, sym}
+use lib.ListN.{length}
+use Rattle.values.specs.Rows.{valueOf}
+use Rattle.writing.specs.Sizes.{placeLength}
+use Rattle.writing.proofs.Places.{octets-short, absent, length-there}
+use borrow.Author.Needs.{needs}
+use Rattle.writing.proofs.sizes.place_len.Statement.{statement}
+use Rattle.writing.proofs.sizes.place_len.Tie as tie
+
+row-at-requires : tie.Need-row-at-requires
+row-at-requires c κs = search needs
+
+returns : tie.Need-returns
+unfolding placeLength
+returns c = (ap length (sym (absent (c .before .before .before .before .before .before .before .args .table .now) (c .before .before .before .before .before .before .before .args .rows .now) (c .before .before .before .before .before .before .before .args .received .now) (c .before .before .before .before .before .before .before .args .set .now) (c .before .before .before .before .before .before .before .args .place) (c .before .before .row-at .result) (c .before .before .row-at .ensures) (c .if1 .taken) 0)), omega arith)
+
+value-octets-requires : tie.Need-value-octets-requires
+value-octets-requires c κs = search needs
+
+form-at-requires : tie.Need-form-at-requires
+form-at-requires c κs = search needs
+
+ie-len-requires : tie.Need-ie-len-requires
+ie-len-requires c κs = let l = octets-short (c .before .before .before .before .before .before .before .before .before .args .received .now) (c .before .before .before .before .before .before .before .before .before .args .set .now) (c .before .before .before .before .before .before .before .before .before .pre .0) (c .before .before .before .before .before .before .before .before .before .pre .1) (valueOf (c .before .before .before .before .row-at .result)) in rw (c .before .value-octets .ensures) (omega arith)
+
+returns-2 : tie.Need-returns-2
+returns-2 c = length-there (c .before .before .before .before .before .before .before .before .before .before .args .table .now) (c .before .before .before .before .before .before .before .before .before .before .args .rows .now) (c .before .before .before .before .before .before .before .before .before .before .args .received .now) (c .before .before .before .before .before .before .before .before .before .before .args .set .now) (c .before .before .before .before .before .before .before .before .before .before .args .place) (c .before .before .before .before .before .row-at .result) (c .before .before .before .before .before .row-at .ensures) (c .before .before .before .if1 .left) (c .before .before .before .before .before .before .before .before .before .before .pre .0) (c .before .before .before .before .before .before .before .before .before .before .pre .1) (c .ie-len .ensures) (c .before .form-at .ensures) (c .before .before .value-octets .ensures)
+
+pub place-len-spec : {M : Type 1} → statement M
+place-len-spec =
+    tie.close
+    (tie.spec
+    row-at-requires
+    returns
+    value-octets-requires
+    form-at-requires
+    ie-len-requires
+    returns-2)

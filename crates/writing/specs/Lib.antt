@@ -1,0 +1,5 @@
+-- What the answers of this crate are by the definitions.
+pub mod Puts
+pub mod Walks
+pub mod Sizes
+pub mod Encodes

@@ -1,0 +1,90 @@
+-- What writing needs to know before an octet is written, by the definitions.
+use Prim.Native.Nat.{ℕ, _+_, _*_, _≤_, _<_}
+use mathlib.Core.Path.{_≡_}
+use mathlib.Core.List.{List, []}
+use mathlib.Core.Bool.{_||_}
+use mathlib.Core.Option.{Option, none, some}
+use lib.ListN.{length}
+use Rattle.definitions.specs.Basic.{bit, among, concat}
+use Rattle.definitions.specs.Rows.{Row, Form, half, fixed, tlv, tlv-e, rowsOf, firstBad, placeOf, index}
+use Rattle.definitions.specs.Elements.{including}
+use Rattle.definitions.specs.Logs.{Placed, knownIei, notKnown, ignored, keptList, orderList}
+use Rattle.definitions.specs.Writing.{Filled, elementAt, logged}
+use Rattle.definitions.proofs.WriteLaws.{loggedLength}
+use Rattle.seen.specs.Seen.{setOf}
+use Rattle.writing.specs.declared.sizes.Tally.{Tally}
+use Rattle.writing.specs.declared.sizes.Logged.{Logged}
+use Rattle.writing.specs.declared.sizes.Kept.{Kept}
+use Rattle.writing.specs.declared.sizes.Fit.{Fit}
+
+-- how many octets an element takes with a value of so many
+abbrev pub takes : Form → ℕ → ℕ
+takes half n = 1
+takes (fixed k) n = 1 + n
+takes tlv n = 2 + n
+takes tlv-e n = 3 + n
+
+-- the element of a place, under whatever IEI
+unfoldable pub placeLength : Filled → ℕ → ℕ
+placeLength m k = length (elementAt m k 0)
+
+-- the most that it takes
+abbrev pub mostIe : ℕ
+mostIe = 65538
+
+-- a table that passes and its index, with octets within their limit
+pub record Sized (table entries received set : List ℕ) : Type 0 where
+  pub passes : firstBad (rowsOf table) ≡ none
+  pub indexed : entries ≡ index (rowsOf table)
+  pub received-short : length received ≤ 65535
+  pub set-short : length set ≤ 65535
+
+-- ---- the order log
+
+-- the octets of an entry's element, and the logged places with its own
+abbrev pub knownLength : Filled → Option ℕ → ℕ
+knownLength m none = 0
+knownLength m (some k) = placeLength m k
+
+abbrev pub knownSet : ℕ → Option ℕ → ℕ
+knownSet set none = set
+knownSet set (some k) = including k set
+
+unfoldable pub entryLength : Filled → Placed → ℕ
+entryLength m (knownIei i) = knownLength m (placeOf (m .table) i)
+entryLength m notKnown = 0
+entryLength m (ignored r) = 0
+
+unfoldable pub entrySet : List Row → Placed → ℕ → ℕ
+entrySet t (knownIei i) set = knownSet set (placeOf t i)
+entrySet t notKnown set = set
+entrySet t (ignored r) set = set
+
+-- with one entry more
+pub record Tallied (m : Filled) (p : Placed) (t r : Tally) : Type 0 where
+  pub octets : r .octets ≡ t .octets + entryLength m p
+  pub few : r .octets ≤ t .octets + mostIe
+  pub set : setOf (r .seen) ≡ entrySet (m .table) p (setOf (t .seen))
+
+-- a tally with entries left: with those it is the one of the whole log
+pub record Tells (m : Filled) (order : List ℕ) (octets set : ℕ) (qs : List Placed) : Type 0 where
+  pub ps : List Placed
+  pub is : orderList order ≡ some ps
+  pub sum : octets + loggedLength m qs ≡ loggedLength m ps
+  pub places : (k : ℕ) → (among k (logged (m .table) qs) || bit k set) ≡ among k (logged (m .table) ps)
+
+abbrev pub LoggedBy : Filled → List ℕ → Logged → Type 0
+LoggedBy m order (Logged.Is t) = (t .octets ≤ mostIe * length order) × Tells m order (t .octets) (setOf (t .seen)) []
+LoggedBy m order Logged.Malformed = orderList order ≡ none
+
+-- ---- the kept log
+
+abbrev pub KeptBy : List ℕ → Kept → Type 0
+KeptBy kept (Kept.Octets n) = (n ≤ length kept) × (es : List (List ℕ)) × (keptList kept ≡ some es) × (n ≡ length (concat es))
+KeptBy kept Kept.Malformed = keptList kept ≡ none
+
+-- ---- the values
+
+abbrev pub fitAs : Fit → Option ℕ
+fitAs Fit.All = none
+fitAs (Fit.Not k) = some k

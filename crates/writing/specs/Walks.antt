@@ -1,0 +1,132 @@
+-- The walk over the order log, entry by entry: what each writes, and where writing is behind it.
+use Prim.Native.Nat.{ℕ, zero, suc, _+_, _-_, _≤_, _<_, max}
+use mathlib.Core.Path.{_≡_}
+use mathlib.Core.List.{List, [], _∷_, _++_}
+use mathlib.Core.Bool.{Bool, true, false, _&&_, not}
+use mathlib.Core.Option.{Option, none, some}
+use lib.ListN.{length, drop}
+use Rattle.definitions.specs.Basic.{pick, bit, overAt}
+use Rattle.definitions.specs.Rows.{Row, rowsOf, firstIei, firstBad, placeOf, index}
+use Rattle.definitions.specs.Values.{valueAt, present, unfitAt}
+use Rattle.definitions.specs.Logs.{Placed, knownIei, notKnown, ignored, keptList, orderList, orEmpty}
+use Rattle.definitions.specs.Writing.{Filled, elementAt, firsts, walked}
+use Rattle.values.specs.Rows.{sourcesOf}
+use Rattle.writing.specs.Puts.{PutAt}
+use Rattle.writing.specs.declared.walk.Pen.{Pen}
+
+-- what is written, as it is lent
+abbrev pub filledOf : List ℕ → List ℕ → List ℕ → List ℕ → Filled
+filledOf table rows received set = record { table = rowsOf table; rows = rows; octets = sourcesOf received set }
+
+-- the index of a table
+abbrev pub IndexIs : List ℕ → List ℕ → Type 0
+IndexIs table entries = entries ≡ index (rowsOf table)
+
+-- a table that passes, and values that fit
+pub record Writable (table rows received set : List ℕ) : Type 0 where
+  pub passes : firstBad (rowsOf table) ≡ none
+  pub fit : (k : ℕ) → k < length (rowsOf table) → unfitAt (rowsOf table) (sourcesOf received set) rows k ≡ false
+
+-- the added places among the n from k on, by the set of the logged ones
+unfoldable pub addedIn : Filled → ℕ → ℕ → ℕ → List ℕ
+addedIn m set k zero = []
+addedIn m set k (suc n) = pick (present (valueAt (m .rows) k) && not (bit k set)) (k ∷ addedIn m set (suc k) n) (addedIn m set (suc k) n)
+
+-- the element of a place, if it is an added one
+unfoldable pub addedPiece : Filled → ℕ → ℕ → List ℕ
+addedPiece m set k = pick (bit k set) [] (elementAt m k (firstIei (m .table) k))
+
+-- the elements of those from a place on, up to another
+unfoldable pub addedOctets : Filled → ℕ → ℕ → ℕ → List ℕ
+addedOctets m set from to = firsts m (addedIn m set from (to - from))
+
+-- ---- the kept log
+
+-- what is left of it from a position on
+unfoldable pub keptFrom : List ℕ → ℕ → List (List ℕ)
+keptFrom kept at = orEmpty (keptList (drop at kept))
+
+-- a position at which the rest of the log is well formed
+pub record KeptAt (kept : List ℕ) (at : ℕ) : Type 0 where
+  pub inside : at ≤ length kept
+  pub formed : keptList (drop at kept) ≡ some (keptFrom kept at)
+
+-- the next element, if there is one, and the others
+unfoldable pub nextOf : List (List ℕ) → List ℕ
+nextOf [] = []
+nextOf (e ∷ es) = e
+
+unfoldable pub restOf : List (List ℕ) → List (List ℕ)
+restOf [] = []
+restOf (e ∷ es) = es
+
+-- behind the next kept element
+pub record PutKept (kept : List ℕ) (p : Pen) (before : List ℕ) (r : Pen) (after : List ℕ) : Type 0 where
+  pub put : PutAt (p .at) (nextOf (keptFrom kept (p .kept))) before (r .at) after
+  pub kept-at : KeptAt kept (r .kept)
+  pub rest : keptFrom kept (r .kept) ≡ restOf (keptFrom kept (p .kept))
+  pub further : p .kept < length kept → p .kept < r .kept
+  pub place : r .place ≡ p .place
+
+-- ---- the order log
+
+-- what is left of it from a position on, and a position at which that is well formed
+unfoldable pub orderFrom : List ℕ → ℕ → List Placed
+orderFrom order at = orEmpty (orderList (drop at order))
+
+pub record OrderAt (order : List ℕ) (at : ℕ) : Type 0 where
+  pub inside : at ≤ length order
+  pub formed : orderList (drop at order) ≡ some (orderFrom order at)
+
+-- ---- an entry
+
+-- of a known IEI with a place, or without
+abbrev pub knownPiece : Filled → ℕ → ℕ → ℕ → Option ℕ → List ℕ
+knownPiece m set iei from none = []
+knownPiece m set iei from (some k) = addedOctets m set from k ++ elementAt m k iei
+
+abbrev pub knownPlace : ℕ → Option ℕ → ℕ
+knownPlace from none = from
+knownPlace from (some k) = max from k
+
+-- what an entry writes, by the place from which added elements are left and the kept elements that are left
+unfoldable pub pieceOf : Filled → ℕ → Placed → ℕ → List (List ℕ) → List ℕ
+pieceOf m set (knownIei i) from ks = knownPiece m set i from (placeOf (m .table) i)
+pieceOf m set notKnown from ks = nextOf ks
+pieceOf m set (ignored r) from ks = nextOf ks
+
+-- and both behind it
+unfoldable pub placeAfter : List Row → Placed → ℕ → ℕ
+placeAfter t (knownIei i) from = knownPlace from (placeOf t i)
+placeAfter t notKnown from = from
+placeAfter t (ignored r) from = from
+
+unfoldable pub keptAfter : Placed → List (List ℕ) → List (List ℕ)
+keptAfter (knownIei i) ks = ks
+keptAfter notKnown ks = restOf ks
+keptAfter (ignored r) ks = restOf ks
+
+-- behind an entry
+pub record PutEntry (m : Filled) (set : ℕ) (kept : List ℕ) (e : Placed) (p : Pen) (before : List ℕ) (r : Pen) (after : List ℕ) : Type 0 where
+  pub put : PutAt (p .at) (pieceOf m set e (p .place) (keptFrom kept (p .kept))) before (r .at) after
+  pub kept-at : KeptAt kept (r .kept)
+  pub rest : keptFrom kept (r .kept) ≡ keptAfter e (keptFrom kept (p .kept))
+  pub place : r .place ≡ placeAfter (m .table) e (p .place)
+
+-- ---- the whole walk
+
+-- what is left to write from a place on, by the entries and the kept elements that are left
+unfoldable pub leftOf : Filled → ℕ → List Placed → ℕ → List (List ℕ) → List ℕ
+leftOf m set ps from ks = walked m ps (addedIn m set from (length (m .table) - from)) ks
+
+-- a piece to be put from a position on, and what is left of it from a later position on: both give the same buffer
+pub record Left (at : ℕ) (piece before : List ℕ) (at′ : ℕ) (piece′ after : List ℕ) : Type 0 where
+  pub long : length after ≡ length before
+  pub room : at′ + length piece′ ≡ at + length piece
+  pub gives : overAt at′ piece′ after ≡ overAt at piece before
+
+-- where writing is with entries left: what is left to write is left of the whole
+pub record Writing (m : Filled) (set : ℕ) (kept whole before : List ℕ) (ps : List Placed) (p : Pen) (after : List ℕ) : Type 0 where
+  pub inside : p .place ≤ length (m .table)
+  pub kept-at : KeptAt kept (p .kept)
+  pub left : Left 0 whole before (p .at) (leftOf m set ps (p .place) (keptFrom kept (p .kept))) after

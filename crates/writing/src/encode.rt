@@ -1,0 +1,475 @@
+// Writing an optional part by a table.
+use crate::sizes::Fit;
+use crate::sizes::Kept;
+use crate::sizes::Logged;
+use crate::sizes::added_len;
+use crate::sizes::first_unfit;
+use crate::sizes::kept_len;
+use crate::sizes::logged_len;
+use crate::walk::write;
+use kept::MOST_LOG;
+use octets::MOST_OCTETS;
+use real::INDEX_P;
+use real::INDEX_PDU_SESSION_ESTABLISHMENT_ACCEPT;
+use real::INDEX_PDU_SESSION_ESTABLISHMENT_REQUEST;
+use real::INDEX_REGISTRATION_ACCEPT;
+use real::INDEX_REGISTRATION_REJECT;
+use real::INDEX_REGISTRATION_REQUEST;
+use real::INDEX_SERVICE_REQUEST;
+use real::PDU_SESSION_ESTABLISHMENT_ACCEPT;
+use real::PDU_SESSION_ESTABLISHMENT_REQUEST;
+use real::REGISTRATION_ACCEPT;
+use real::REGISTRATION_REJECT;
+use real::REGISTRATION_REQUEST;
+use real::SERVICE_REQUEST;
+use real::TABLE_P;
+use rows::check::Checked;
+use rows::check::check_and_index;
+use rows::columns::places;
+use values::row::any_bad;
+ghost use mathlib.Core.Path.{_≡_};
+ghost use mathlib.Core.Option.{none};
+ghost use Rattle.definitions.specs.Basic.{tooLong};
+ghost use Rattle.definitions.specs.Rows.{rowsOf, firstBad};
+ghost use Rattle.definitions.specs.Writing.{writing, writingBy};
+ghost use Rattle.kept.specs.Kept.{usedOf};
+ghost use Rattle.real.specs.Real.{realOf};
+ghost use Rattle.writing.specs.Walks.{IndexIs};
+ghost use Rattle.writing.specs.Encodes.{Encodes, usedUp, Limited};
+
+// What is malformed.
+pub enum Which {
+    Order,
+    Kept,
+    Rows,
+}
+
+// What writing answers: the octets written, or a refusal.
+pub enum Encoded {
+    Done(usize),
+    NoRows,
+    TooLong,
+    BadTable(usize),
+    NoTable,
+    Unfit(usize),
+    Malformed(Which),
+    NoOutput(u64),
+}
+
+// Whether a used count is above its buffer or over a limit.
+fn too_long(buffer: &[u8], used: usize, most: usize) -> bool
+    ensures { λ r. ⌜ r ≡ tooLong most (usedOf (now (buffer .entry)) used) ⌝ }
+{
+    if used > buffer.len() {
+        return true;
+    }
+    used > most
+}
+
+// By a table that passes and its index, of the octets that are used, with a row for each place.
+fn encode_used<'a>(
+    table: &[u32],
+    index: &[u8],
+    rows: &[u32],
+    received: &'a [u8],
+    set: &'a [u8],
+    kept: &[u8],
+    order: &[u8],
+    output: &mut [u8],
+) -> Encoded
+    requires { ⌜ Limited (now table) (now index) (now rows) (now received) (now set) (now kept) (now order) ⌝ }
+    ensures { λ r. ⌜ Encodes (writing (now (table .entry)) (now (rows .entry)) (now (received .entry)) (usedUp (now (set .entry))) (usedUp (now (order .entry))) (usedUp (now (kept .entry))) (now (output .entry))) r (now (output .exit)) ⌝ }
+{
+    let Logged::Is(tally) = logged_len(table, index, rows, received, set, order) else {
+        return Encoded::Malformed(Which::Order);
+    };
+    let Kept::Octets(kept_octets) = kept_len(kept) else {
+        return Encoded::Malformed(Which::Kept);
+    };
+    if any_bad(rows, places(table), received, set) {
+        return Encoded::Malformed(Which::Rows);
+    }
+    if let Fit::Not(k) = first_unfit(table, rows, received, set) {
+        return Encoded::Unfit(k);
+    }
+    let seen = tally.seen;
+    let need = tally.octets + kept_octets + added_len(table, rows, received, set, seen);
+    if output.len() < need {
+        return Encoded::NoOutput(need as u64);
+    }
+    write(table, index, rows, received, set, kept, order, seen, output);
+    Encoded::Done(need)
+}
+
+// By a table that passes its check, and its index.
+fn encode_by_index<'a>(
+    table: &[u32],
+    index: &[u8],
+    rows: &[u32],
+    received: &'a [u8],
+    set: &'a [u8],
+    set_used: usize,
+    kept: &[u8],
+    kept_used: usize,
+    order: &[u8],
+    order_used: usize,
+    output: &mut [u8],
+) -> Encoded
+    requires { ⌜ (firstBad (rowsOf (now table)) ≡ none) × IndexIs (now table) (now index) ⌝ }
+    ensures { λ r. ⌜ Encodes (writing (now (table .entry)) (now (rows .entry)) (now (received .entry)) (usedOf (now (set .entry)) «set_used») (usedOf (now (order .entry)) «order_used») (usedOf (now (kept .entry)) «kept_used») (now (output .entry))) r (now (output .exit)) ⌝ }
+{
+    if received.len() > MOST_OCTETS {
+        return Encoded::TooLong;
+    }
+    if too_long(set, set_used, MOST_OCTETS) {
+        return Encoded::TooLong;
+    }
+    if too_long(order, order_used, MOST_LOG) {
+        return Encoded::TooLong;
+    }
+    if too_long(kept, kept_used, MOST_LOG) {
+        return Encoded::TooLong;
+    }
+    if rows.len() < 3 * places(table) {
+        return Encoded::NoRows;
+    }
+    encode_used(
+        table,
+        index,
+        rows,
+        received,
+        &set[..set_used],
+        &kept[..kept_used],
+        &order[..order_used],
+        output,
+    )
+}
+
+// By a lent table.
+pub fn encode_optional_ies<'a>(
+    table: &[u32],
+    rows: &[u32],
+    received: &'a [u8],
+    set: &'a [u8],
+    set_used: usize,
+    kept: &[u8],
+    kept_used: usize,
+    order: &[u8],
+    order_used: usize,
+    output: &mut [u8],
+) -> Encoded
+    ensures { λ r. ⌜ Encodes (writing (now (table .entry)) (now (rows .entry)) (now (received .entry)) (usedOf (now (set .entry)) «set_used») (usedOf (now (order .entry)) «order_used») (usedOf (now (kept .entry)) «kept_used») (now (output .entry))) r (now (output .exit)) ⌝ }
+{
+    let mut index = [255u8; 256];
+    match check_and_index(table, &mut index) {
+        Checked::Passes => encode_by_index(
+            table,
+            &index,
+            rows,
+            received,
+            set,
+            set_used,
+            kept,
+            kept_used,
+            order,
+            order_used,
+            output,
+        ),
+        Checked::BadRow(k) => Encoded::BadTable(k),
+    }
+}
+
+// ---- by table number: 0 is P, 1 to 6 the real tables. Each has its constant index, and is proved to pass its check.
+
+fn encode_p<'a>(
+    rows: &[u32],
+    received: &'a [u8],
+    set: &'a [u8],
+    set_used: usize,
+    kept: &[u8],
+    kept_used: usize,
+    order: &[u8],
+    order_used: usize,
+    output: &mut [u8],
+) -> Encoded
+    ensures { λ r. ⌜ Encodes (writing (realOf 0) (now (rows .entry)) (now (received .entry)) (usedOf (now (set .entry)) «set_used») (usedOf (now (order .entry)) «order_used») (usedOf (now (kept .entry)) «kept_used») (now (output .entry))) r (now (output .exit)) ⌝ }
+{
+    encode_by_index(
+        &TABLE_P,
+        &INDEX_P,
+        rows,
+        received,
+        set,
+        set_used,
+        kept,
+        kept_used,
+        order,
+        order_used,
+        output,
+    )
+}
+
+fn encode_registration_request<'a>(
+    rows: &[u32],
+    received: &'a [u8],
+    set: &'a [u8],
+    set_used: usize,
+    kept: &[u8],
+    kept_used: usize,
+    order: &[u8],
+    order_used: usize,
+    output: &mut [u8],
+) -> Encoded
+    ensures { λ r. ⌜ Encodes (writing (realOf 1) (now (rows .entry)) (now (received .entry)) (usedOf (now (set .entry)) «set_used») (usedOf (now (order .entry)) «order_used») (usedOf (now (kept .entry)) «kept_used») (now (output .entry))) r (now (output .exit)) ⌝ }
+{
+    encode_by_index(
+        &REGISTRATION_REQUEST,
+        &INDEX_REGISTRATION_REQUEST,
+        rows,
+        received,
+        set,
+        set_used,
+        kept,
+        kept_used,
+        order,
+        order_used,
+        output,
+    )
+}
+
+fn encode_registration_accept<'a>(
+    rows: &[u32],
+    received: &'a [u8],
+    set: &'a [u8],
+    set_used: usize,
+    kept: &[u8],
+    kept_used: usize,
+    order: &[u8],
+    order_used: usize,
+    output: &mut [u8],
+) -> Encoded
+    ensures { λ r. ⌜ Encodes (writing (realOf 2) (now (rows .entry)) (now (received .entry)) (usedOf (now (set .entry)) «set_used») (usedOf (now (order .entry)) «order_used») (usedOf (now (kept .entry)) «kept_used») (now (output .entry))) r (now (output .exit)) ⌝ }
+{
+    encode_by_index(
+        &REGISTRATION_ACCEPT,
+        &INDEX_REGISTRATION_ACCEPT,
+        rows,
+        received,
+        set,
+        set_used,
+        kept,
+        kept_used,
+        order,
+        order_used,
+        output,
+    )
+}
+
+fn encode_registration_reject<'a>(
+    rows: &[u32],
+    received: &'a [u8],
+    set: &'a [u8],
+    set_used: usize,
+    kept: &[u8],
+    kept_used: usize,
+    order: &[u8],
+    order_used: usize,
+    output: &mut [u8],
+) -> Encoded
+    ensures { λ r. ⌜ Encodes (writing (realOf 3) (now (rows .entry)) (now (received .entry)) (usedOf (now (set .entry)) «set_used») (usedOf (now (order .entry)) «order_used») (usedOf (now (kept .entry)) «kept_used») (now (output .entry))) r (now (output .exit)) ⌝ }
+{
+    encode_by_index(
+        &REGISTRATION_REJECT,
+        &INDEX_REGISTRATION_REJECT,
+        rows,
+        received,
+        set,
+        set_used,
+        kept,
+        kept_used,
+        order,
+        order_used,
+        output,
+    )
+}
+
+fn encode_service_request<'a>(
+    rows: &[u32],
+    received: &'a [u8],
+    set: &'a [u8],
+    set_used: usize,
+    kept: &[u8],
+    kept_used: usize,
+    order: &[u8],
+    order_used: usize,
+    output: &mut [u8],
+) -> Encoded
+    ensures { λ r. ⌜ Encodes (writing (realOf 4) (now (rows .entry)) (now (received .entry)) (usedOf (now (set .entry)) «set_used») (usedOf (now (order .entry)) «order_used») (usedOf (now (kept .entry)) «kept_used») (now (output .entry))) r (now (output .exit)) ⌝ }
+{
+    encode_by_index(
+        &SERVICE_REQUEST,
+        &INDEX_SERVICE_REQUEST,
+        rows,
+        received,
+        set,
+        set_used,
+        kept,
+        kept_used,
+        order,
+        order_used,
+        output,
+    )
+}
+
+fn encode_pdu_session_establishment_request<'a>(
+    rows: &[u32],
+    received: &'a [u8],
+    set: &'a [u8],
+    set_used: usize,
+    kept: &[u8],
+    kept_used: usize,
+    order: &[u8],
+    order_used: usize,
+    output: &mut [u8],
+) -> Encoded
+    ensures { λ r. ⌜ Encodes (writing (realOf 5) (now (rows .entry)) (now (received .entry)) (usedOf (now (set .entry)) «set_used») (usedOf (now (order .entry)) «order_used») (usedOf (now (kept .entry)) «kept_used») (now (output .entry))) r (now (output .exit)) ⌝ }
+{
+    encode_by_index(
+        &PDU_SESSION_ESTABLISHMENT_REQUEST,
+        &INDEX_PDU_SESSION_ESTABLISHMENT_REQUEST,
+        rows,
+        received,
+        set,
+        set_used,
+        kept,
+        kept_used,
+        order,
+        order_used,
+        output,
+    )
+}
+
+fn encode_pdu_session_establishment_accept<'a>(
+    rows: &[u32],
+    received: &'a [u8],
+    set: &'a [u8],
+    set_used: usize,
+    kept: &[u8],
+    kept_used: usize,
+    order: &[u8],
+    order_used: usize,
+    output: &mut [u8],
+) -> Encoded
+    ensures { λ r. ⌜ Encodes (writing (realOf 6) (now (rows .entry)) (now (received .entry)) (usedOf (now (set .entry)) «set_used») (usedOf (now (order .entry)) «order_used») (usedOf (now (kept .entry)) «kept_used») (now (output .entry))) r (now (output .exit)) ⌝ }
+{
+    encode_by_index(
+        &PDU_SESSION_ESTABLISHMENT_ACCEPT,
+        &INDEX_PDU_SESSION_ESTABLISHMENT_ACCEPT,
+        rows,
+        received,
+        set,
+        set_used,
+        kept,
+        kept_used,
+        order,
+        order_used,
+        output,
+    )
+}
+
+// By table number.
+pub fn encode_optional_ies_by<'a>(
+    number: u32,
+    rows: &[u32],
+    received: &'a [u8],
+    set: &'a [u8],
+    set_used: usize,
+    kept: &[u8],
+    kept_used: usize,
+    order: &[u8],
+    order_used: usize,
+    output: &mut [u8],
+) -> Encoded
+    ensures { λ r. ⌜ Encodes (writingBy number (now (rows .entry)) (now (received .entry)) (usedOf (now (set .entry)) «set_used») (usedOf (now (order .entry)) «order_used») (usedOf (now (kept .entry)) «kept_used») (now (output .entry))) r (now (output .exit)) ⌝ }
+{
+    match number {
+        0 => encode_p(
+            rows,
+            received,
+            set,
+            set_used,
+            kept,
+            kept_used,
+            order,
+            order_used,
+            output,
+        ),
+        1 => encode_registration_request(
+            rows,
+            received,
+            set,
+            set_used,
+            kept,
+            kept_used,
+            order,
+            order_used,
+            output,
+        ),
+        2 => encode_registration_accept(
+            rows,
+            received,
+            set,
+            set_used,
+            kept,
+            kept_used,
+            order,
+            order_used,
+            output,
+        ),
+        3 => encode_registration_reject(
+            rows,
+            received,
+            set,
+            set_used,
+            kept,
+            kept_used,
+            order,
+            order_used,
+            output,
+        ),
+        4 => encode_service_request(
+            rows,
+            received,
+            set,
+            set_used,
+            kept,
+            kept_used,
+            order,
+            order_used,
+            output,
+        ),
+        5 => encode_pdu_session_establishment_request(
+            rows,
+            received,
+            set,
+            set_used,
+            kept,
+            kept_used,
+            order,
+            order_used,
+            output,
+        ),
+        6 => encode_pdu_session_establishment_accept(
+            rows,
+            received,
+            set,
+            set_used,
+            kept,
+            kept_used,
+            order,
+            order_used,
+            output,
+        ),
+        _ => Encoded::NoTable,
+    }
+}

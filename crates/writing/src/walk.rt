@@ -1,0 +1,297 @@
+// The walk over the order log that writes, once it is known that there is room. Each piece goes into the rest of the output.
+use crate::put::put_ie;
+use kept::Count;
+use kept::entry_at;
+use octets::put_slice;
+use order::Front;
+use order::Placed;
+use order::entry_len;
+use order::front_at;
+use rows::columns::first_iei;
+use rows::columns::form_at;
+use rows::columns::places;
+use rows::index::Place;
+use rows::index::place_of;
+use seen::Seen;
+use seen::seen_has;
+use values::row::row_at;
+use values::row::value_octets;
+ghost use mathlib.Core.Path.{_≡_};
+ghost use mathlib.Core.List.{[]};
+ghost use mathlib.Core.Option.{some};
+ghost use Prim.Native.Nat.{_+_, _≤_, _<_, max};
+ghost use lib.ListN.{length};
+ghost use Rattle.definitions.specs.Basic.{over, overAt, concat};
+ghost use Rattle.definitions.specs.Rows.{rowsOf, rowAt, form, placeOf};
+ghost use Rattle.definitions.specs.Logs.{orderList, orEmpty};
+ghost use Rattle.definitions.specs.Writing.{elementAt};
+ghost use Rattle.definitions.proofs.RowLaws.{Bears};
+ghost use Rattle.order.specs.Order.{placedAs};
+ghost use Rattle.seen.specs.Seen.{setOf};
+ghost use Rattle.writing.specs.Puts.{PutAt};
+ghost use Rattle.writing.specs.Walks.{filledOf, Writable, IndexIs, addedPiece, addedOctets, KeptAt, keptFrom, nextOf, PutKept, knownPiece, knownPlace, pieceOf, PutEntry, leftOf, Writing};
+
+// Where writing is: the position in the output, the position in the kept log, and the place below which every added element is
+// written.
+pub struct Pen {
+    pub at: usize,
+    pub kept: usize,
+    pub place: usize,
+}
+
+// The element of a place under an IEI, if the place is present; the position behind it.
+fn put_place<'a>(
+    table: &[u32],
+    rows: &[u32],
+    received: &'a [u8],
+    set: &'a [u8],
+    place: usize,
+    iei: u8,
+    output: &mut [u8],
+    at: usize,
+) -> usize
+    requires { ⌜ Writable (now table) (now rows) (now received) (now set) × (place < length (rowsOf (now table))) × Bears (form (rowAt (rowsOf (now table)) place)) iei × (at + length (elementAt (filledOf (now table) (now rows) (now received) (now set)) place iei) ≤ length (now output)) ⌝ }
+    ensures { λ r. ⌜ PutAt at (elementAt (filledOf (now (table .entry)) (now (rows .entry)) (now (received .entry)) (now (set .entry))) place iei) (now (output .entry)) r (now (output .exit)) ⌝ }
+{
+    let row = row_at(rows, place);
+    if row.source == 0 {
+        return at;
+    }
+    let form = form_at(table, place);
+    let value = value_octets(received, set, row);
+    at + put_ie(&mut output[at..], form, iei, value)
+}
+
+// The element of a place under its first IEI, if it is an added one; the position behind it.
+fn put_first<'a>(
+    table: &[u32],
+    rows: &[u32],
+    received: &'a [u8],
+    set: &'a [u8],
+    seen: Seen,
+    place: usize,
+    output: &mut [u8],
+    at: usize,
+) -> usize
+    requires { ⌜ Writable (now table) (now rows) (now received) (now set) × (place < length (rowsOf (now table))) × (at + length (addedPiece (filledOf (now table) (now rows) (now received) (now set)) (setOf seen) place) ≤ length (now output)) ⌝ }
+    ensures { λ r. ⌜ PutAt at (addedPiece (filledOf (now (table .entry)) (now (rows .entry)) (now (received .entry)) (now (set .entry))) (setOf seen) place) (now (output .entry)) r (now (output .exit)) ⌝ }
+{
+    if seen_has(seen, place) {
+        return at;
+    }
+    let iei = first_iei(table, place) as u8;
+    put_place(table, rows, received, set, place, iei, output, at)
+}
+
+// The added elements from a place on, up to another, ascending and each under its first IEI; the position behind them.
+fn put_added<'a>(
+    table: &[u32],
+    rows: &[u32],
+    received: &'a [u8],
+    set: &'a [u8],
+    seen: Seen,
+    from: usize,
+    to: usize,
+    output: &mut [u8],
+    at: usize,
+) -> usize
+    requires { ⌜ Writable (now table) (now rows) (now received) (now set) × (to ≤ length (rowsOf (now table))) × (at + length (addedOctets (filledOf (now table) (now rows) (now received) (now set)) (setOf seen) from to) ≤ length (now output)) ⌝ }
+    ensures { λ r. ⌜ PutAt at (addedOctets (filledOf (now (table .entry)) (now (rows .entry)) (now (received .entry)) (now (set .entry))) (setOf seen) from to) (now (output .entry)) r (now (output .exit)) ⌝ }
+{
+    let mut next = at;
+    let mut k = from;
+    while k < to {
+        next = put_first(table, rows, received, set, seen, k, output, next);
+        k += 1;
+    }
+    next
+}
+
+// The next kept element, if there is one.
+fn put_kept(kept: &[u8], pen: Pen, output: &mut [u8]) -> Pen
+    requires { ⌜ KeptAt (now kept) (pen .kept) × (pen .at + length (nextOf (keptFrom (now kept) (pen .kept))) ≤ length (now output)) ⌝ }
+    ensures { λ r. ⌜ PutKept (now (kept .entry)) pen (now (output .entry)) r (now (output .exit)) ⌝ }
+{
+    let at = pen.at;
+    let from = pen.kept;
+    match entry_at(&kept[from..]) {
+        Count::Is(value, took) => {
+            let start = from + took;
+            let end = start + value;
+            put_slice(&mut output[at..], &kept[start..end]);
+            Pen {
+                at: at + value,
+                kept: end,
+                place: pen.place,
+            }
+        }
+        Count::Not => pen,
+    }
+}
+
+// The higher of two places.
+fn higher(a: usize, b: usize) -> usize
+    ensures { λ r. ⌜ r ≡ max a b ⌝ }
+{
+    if a < b {
+        return b;
+    }
+    a
+}
+
+// A known entry: the added elements of lower place, then its own under the logged IEI; nothing of an IEI without a place.
+fn put_known<'a>(
+    table: &[u32],
+    index: &[u8],
+    rows: &[u32],
+    received: &'a [u8],
+    set: &'a [u8],
+    seen: Seen,
+    iei: u8,
+    pen: Pen,
+    output: &mut [u8],
+) -> Pen
+    requires { ⌜ Writable (now table) (now rows) (now received) (now set) × IndexIs (now table) (now index) × (pen .at + length (knownPiece (filledOf (now table) (now rows) (now received) (now set)) (setOf seen) iei (pen .place) (placeOf (rowsOf (now table)) iei)) ≤ length (now output)) ⌝ }
+    ensures { λ r. ⌜ PutAt (pen .at) (knownPiece (filledOf (now (table .entry)) (now (rows .entry)) (now (received .entry)) (now (set .entry))) (setOf seen) iei (pen .place) (placeOf (rowsOf (now (table .entry))) iei)) (now (output .entry)) (r .at) (now (output .exit)) × (r .kept ≡ pen .kept) × (r .place ≡ knownPlace (pen .place) (placeOf (rowsOf (now (table .entry))) iei)) ⌝ }
+{
+    match place_of(index, iei) {
+        Place::At(k) => {
+            let at = put_added(
+                table,
+                rows,
+                received,
+                set,
+                seen,
+                pen.place,
+                k,
+                output,
+                pen.at,
+            );
+            let next = put_place(table, rows, received, set, k, iei, output, at);
+            Pen {
+                at: next,
+                kept: pen.kept,
+                place: higher(pen.place, k),
+            }
+        }
+        Place::Nowhere => pen,
+    }
+}
+
+// An entry of the order log.
+fn put_entry<'a>(
+    table: &[u32],
+    index: &[u8],
+    rows: &[u32],
+    received: &'a [u8],
+    set: &'a [u8],
+    kept: &[u8],
+    seen: Seen,
+    entry: Placed,
+    pen: Pen,
+    output: &mut [u8],
+) -> Pen
+    requires { ⌜ Writable (now table) (now rows) (now received) (now set) × IndexIs (now table) (now index) × KeptAt (now kept) (pen .kept) × (pen .at + length (pieceOf (filledOf (now table) (now rows) (now received) (now set)) (setOf seen) (placedAs entry) (pen .place) (keptFrom (now kept) (pen .kept))) ≤ length (now output)) ⌝ }
+    ensures { λ r. ⌜ PutEntry (filledOf (now (table .entry)) (now (rows .entry)) (now (received .entry)) (now (set .entry))) (setOf seen) (now (kept .entry)) (placedAs entry) pen (now (output .entry)) r (now (output .exit)) ⌝ }
+{
+    match entry {
+        Placed::Known(iei) => put_known(table, index, rows, received, set, seen, iei, pen, output),
+        Placed::Unknown => put_kept(kept, pen, output),
+        Placed::Ignored(_) => put_kept(kept, pen, output),
+    }
+}
+
+// The whole order log.
+fn put_entries<'a>(
+    table: &[u32],
+    index: &[u8],
+    rows: &[u32],
+    received: &'a [u8],
+    set: &'a [u8],
+    kept: &[u8],
+    order: &[u8],
+    seen: Seen,
+    output: &mut [u8],
+) -> Pen
+    requires { ⌜ Writable (now table) (now rows) (now received) (now set) × IndexIs (now table) (now index) × KeptAt (now kept) 0 × (orderList (now order) ≡ some (orEmpty (orderList (now order)))) × (length (leftOf (filledOf (now table) (now rows) (now received) (now set)) (setOf seen) (orEmpty (orderList (now order))) 0 (keptFrom (now kept) 0)) ≤ length (now output)) ⌝ }
+    ensures { λ r. ⌜ Writing (filledOf (now (table .entry)) (now (rows .entry)) (now (received .entry)) (now (set .entry))) (setOf seen) (now (kept .entry)) (leftOf (filledOf (now (table .entry)) (now (rows .entry)) (now (received .entry)) (now (set .entry))) (setOf seen) (orEmpty (orderList (now (order .entry)))) 0 (keptFrom (now (kept .entry)) 0)) (now (output .entry)) [] r (now (output .exit)) ⌝ }
+{
+    let mut pen = Pen {
+        at: 0,
+        kept: 0,
+        place: 0,
+    };
+    let mut from = 0;
+    while from < order.len() {
+        match front_at(&order[from..]) {
+            Front::Is(entry) => {
+                pen = put_entry(
+                    table,
+                    index,
+                    rows,
+                    received,
+                    set,
+                    kept,
+                    seen,
+                    entry,
+                    pen,
+                    output,
+                );
+                from += entry_len(entry);
+            }
+            Front::Not => {
+                return pen;
+            }
+        }
+    }
+    pen
+}
+
+// The kept elements that are left.
+fn put_left(kept: &[u8], pen: Pen, output: &mut [u8])
+    requires { ⌜ KeptAt (now kept) (pen .kept) × (pen .at + length (concat (keptFrom (now kept) (pen .kept))) ≤ length (now output)) ⌝ }
+    ensures { λ r. ⌜ now (output .exit) ≡ overAt (pen .at) (concat (keptFrom (now (kept .entry)) (pen .kept))) (now (output .entry)) ⌝ }
+{
+    let mut p = pen;
+    while p.kept < kept.len() {
+        p = put_kept(kept, p, output);
+    }
+}
+
+// All that a message is written as.
+pub(crate) fn write<'a>(
+    table: &[u32],
+    index: &[u8],
+    rows: &[u32],
+    received: &'a [u8],
+    set: &'a [u8],
+    kept: &[u8],
+    order: &[u8],
+    seen: Seen,
+    output: &mut [u8],
+)
+    requires { ⌜ Writable (now table) (now rows) (now received) (now set) × IndexIs (now table) (now index) × KeptAt (now kept) 0 × (orderList (now order) ≡ some (orEmpty (orderList (now order)))) × (length (leftOf (filledOf (now table) (now rows) (now received) (now set)) (setOf seen) (orEmpty (orderList (now order))) 0 (keptFrom (now kept) 0)) ≤ length (now output)) ⌝ }
+    ensures { λ r. ⌜ now (output .exit) ≡ over (leftOf (filledOf (now (table .entry)) (now (rows .entry)) (now (received .entry)) (now (set .entry))) (setOf seen) (orEmpty (orderList (now (order .entry)))) 0 (keptFrom (now (kept .entry)) 0)) (now (output .entry)) ⌝ }
+{
+    let pen = put_entries(table, index, rows, received, set, kept, order, seen, output);
+    let at = put_added(
+        table,
+        rows,
+        received,
+        set,
+        seen,
+        pen.place,
+        places(table),
+        output,
+        pen.at,
+    );
+    put_left(
+        kept,
+        Pen {
+            at,
+            kept: pen.kept,
+            place: pen.place,
+        },
+        output,
+    );
+}
