@@ -16,7 +16,7 @@ use Rattle.definitions.proofs.Lists.{over-none, over-next, length-overAt}
 use Rattle.definitions.proofs.LogSteps.{keptFrom, KeptAt, orderFrom, restOf, keptAfter, order-split, order-next, order-over}
 use Rattle.definitions.proofs.Orders.{orderFront}
 use Rattle.findings.specs.Findings.{kindOf, highAfter, foundOf, findingsIn}
-use Rattle.findings.specs.Walks.{Logs, ElementAt, JudgedAs, Walking, leftIn, allIn, Stepped}
+use Rattle.findings.specs.Walks.{Logs, ElementAt, unmoved, JudgedAs, Walking, leftIn, allIn, Stepped}
 use Rattle.findings.specs.declared.walk.Walk.{Walk}
 use Rattle.findings.specs.declared.walk.Judged.{Judged}
 use Rattle.findings.specs.declared.walk.Step.{Step}
@@ -38,11 +38,11 @@ module _ (ix kept : List ℕ) (w : Walk) where
     ignored-taken q = record { kind = rw (e .splits) q; highest = refl; rest = rw (e .splits); formed = e .formed }
 
   module _ (f : KeptAt kept (w .kept)) (e : keptFrom kept (w .kept) ≡ []) where
-    pub unknown-gone : JudgedAs ix kept w notKnown (judged 0 (w .highest) (w .kept))
+    pub unknown-gone : JudgedAs ix kept w notKnown (unmoved w)
     unfolding kindOf highAfter keptAfter restOf
     unknown-gone = record { kind = rw e; highest = refl; rest = rw e; formed = f }
 
-    pub ignored-gone : (r : Reason) → JudgedAs ix kept w (ignored r) (judged 0 (w .highest) (w .kept))
+    pub ignored-gone : (r : Reason) → JudgedAs ix kept w (ignored r) (unmoved w)
     unfolding kindOf highAfter keptAfter restOf
     ignored-gone r = record { kind = rw e; highest = refl; rest = rw e; formed = f }
 

@@ -29,6 +29,10 @@ abbrev pub NextIs : List ℕ → ℕ → Next → Type 0
 NextIs kept at (Next.Element x to) = ElementAt kept at x to
 NextIs kept at Next.Gone = keptFrom kept at ≡ []
 
+-- an entry with which nothing is wrong, and behind which nothing has moved
+abbrev pub unmoved : Walk → Judged
+unmoved w = record { kind = 0; highest = w .highest; kept = w .kept }
+
 -- an entry judged
 pub record JudgedAs (ix kept : List ℕ) (w : Walk) (p : Placed) (r : Judged) : Type 0 where
   pub kind : r .kind ≡ kindOf ix (w .highest) p (keptFrom kept (w .kept))

@@ -20,7 +20,7 @@ ghost use Rattle.definitions.specs.Findings.{reasonKind};
 ghost use Rattle.definitions.proofs.LogSteps.{KeptAt};
 ghost use Rattle.order.specs.Order.{reasonAs, placedAs};
 ghost use Rattle.findings.specs.Findings.{foundOf};
-ghost use Rattle.findings.specs.Walks.{Logs, allIn, NextIs, JudgedAs, Walking, Stepped};
+ghost use Rattle.findings.specs.Walks.{Logs, allIn, NextIs, JudgedAs, unmoved, Walking, Stepped};
 
 // Where the walk is: the positions in the two logs, the number of the entry there, and the highest place so far.
 pub struct Walk {
@@ -93,12 +93,24 @@ fn judge_known(index: &[u8], kept: &[u8], w: Walk, iei: u8) -> Judged
     }
 }
 
+// An entry for which no kept element is left: nothing is wrong, and nothing moves.
+fn without_element(w: Walk) -> Judged
+    ensures { λ r. ⌜ r ≡ unmoved w ⌝ }
+{
+    let kind = 0;
+    Judged {
+        kind,
+        highest: w.highest,
+        kept: w.kept,
+    }
+}
+
 // 2 where the IEI of a first octet has a place.
 fn kind_of_unknown(index: &[u8], x: u8) -> u32
     ensures { λ r. ⌜ r ≡ pick (isNone (placeIn (now (index .entry)) (ieiOf x))) 0 2 ⌝ }
 {
-    let iei = iei_of(x);
-    match place_of(index, iei) {
+    let masked = iei_of(x);
+    match place_of(index, masked) {
         Place::At(_) => 2,
         Place::Nowhere => 0,
     }
@@ -115,11 +127,7 @@ fn judge_unknown(index: &[u8], kept: &[u8], w: Walk) -> Judged
             highest: w.highest,
             kept: to,
         },
-        Next::Gone => Judged {
-            kind: 0,
-            highest: w.highest,
-            kept: w.kept,
-        },
+        Next::Gone => without_element(w),
     }
 }
 
@@ -144,11 +152,7 @@ fn judge_ignored(index: &[u8], kept: &[u8], w: Walk, reason: IgnoredIeReason) ->
             highest: w.highest,
             kept: to,
         },
-        Next::Gone => Judged {
-            kind: 0,
-            highest: w.highest,
-            kept: w.kept,
-        },
+        Next::Gone => without_element(w),
     }
 }
 

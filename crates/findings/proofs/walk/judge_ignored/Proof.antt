@@ -18,13 +18,16 @@ kind-of-reason-requires c κs = search needs
 enum-told : tie.Need-enum-told
 enum-told c = search needs
 
+without-element-requires : tie.Need-without-element-requires
+without-element-requires c κs = search needs
+
 returns : tie.Need-returns
 returns c = let a = c .before .before .before .before .before .before .before .args in ignored-taken (a .index .now) (a .kept .now) (a .w) (rw (c .before .before .to .given .1) at (c .before .before .before .before .next-kept .ensures)) (c .kind-of-reason .ensures)
 
 returns-2 : tie.Need-returns-2
-returns-2 c = let a = c .before .before .before .before .before .args in ignored-gone (a .index .now) (a .kept .now) (a .w) (c .before .before .before .before .before .pre) (rw (c .enum-told .given .1) at (c .before .before .next-kept .ensures)) (reasonAs (a .reason))
+returns-2 c = let a = c .before .before .before .before .before .before .args in rw (c .without-element .ensures) (ignored-gone (a .index .now) (a .kept .now) (a .w) (c .before .before .before .before .before .before .pre) (rw (c .before .enum-told .given .1) at (c .before .before .before .next-kept .ensures)) (reasonAs (a .reason)))
 
 pub judge-ignored-spec : {M : Type 1} → statement M
 judge-ignored-spec =
     tie.close
-    (tie.spec next-kept-requires enum-known-to kind-of-reason-requires enum-told returns returns-2)
+    (tie.spec next-kept-requires enum-known-to kind-of-reason-requires enum-told without-element-requires returns returns-2)

@@ -17,13 +17,16 @@ kind-of-unknown-requires c κs = search needs
 enum-told : tie.Need-enum-told
 enum-told c = search needs
 
+without-element-requires : tie.Need-without-element-requires
+without-element-requires c κs = search needs
+
 returns : tie.Need-returns
 returns c = let a = c .before .before .before .before .before .before .before .args in unknown-taken (a .index .now) (a .kept .now) (a .w) (rw (c .before .before .x .given .1) at (c .before .before .before .before .next-kept .ensures)) (c .kind-of-unknown .ensures)
 
 returns-2 : tie.Need-returns-2
-returns-2 c = let a = c .before .before .before .before .before .args in unknown-gone (a .index .now) (a .kept .now) (a .w) (c .before .before .before .before .before .pre) (rw (c .enum-told .given .1) at (c .before .before .next-kept .ensures))
+returns-2 c = let a = c .before .before .before .before .before .before .args in rw (c .without-element .ensures) (unknown-gone (a .index .now) (a .kept .now) (a .w) (c .before .before .before .before .before .before .pre) (rw (c .before .enum-told .given .1) at (c .before .before .before .next-kept .ensures)))
 
 pub judge-unknown-spec : {M : Type 1} → statement M
 judge-unknown-spec =
     tie.close
-    (tie.spec next-kept-requires enum-known-x kind-of-unknown-requires enum-told returns returns-2)
+    (tie.spec next-kept-requires enum-known-x kind-of-unknown-requires enum-told without-element-requires returns returns-2)
