@@ -16,13 +16,13 @@ returns : tie.Need-returns
 unfolding kindOf highAfter keptAfter
 returns c =
     let w = c .before .before .before .before .before .args .w in
-    record { kind = rw (← c .before .before .place-or-0 .ensures, lt-ltb (c .before .before .place-or-0 .result) (w .highest) (c .if1 .taken)); highest = omega arith; rest = refl; formed = c .before .before .before .before .before .pre }
+    record { kind = rw (← c .before .before .place-or-0 .ensures, lt-ltb (c .before .before .place-or-0 .result) (w .highest) (omega arith)); highest = omega arith; rest = refl; formed = c .before .before .before .before .before .pre }
 
 returns-2 : tie.Need-returns-2
 unfolding kindOf highAfter keptAfter
 returns-2 c =
     let w = c .before .before .before .before .before .args .w in
-    record { kind = rw (← c .before .before .place-or-0 .ensures, le-ltb (c .before .before .place-or-0 .result) (w .highest) (c .if1 .left)); highest = omega arith; rest = refl; formed = c .before .before .before .before .before .pre }
+    record { kind = rw (← c .before .before .place-or-0 .ensures, le-ltb (c .before .before .place-or-0 .result) (w .highest) (omega arith)); highest = omega arith; rest = refl; formed = c .before .before .before .before .before .pre }
 
 pub judge-known-spec : {M : Type 1} → statement M
 judge-known-spec = tie.close (tie.spec place-or-0-requires returns returns-2)
