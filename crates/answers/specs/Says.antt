@@ -8,6 +8,7 @@ use Rattle.definitions.specs.Basic.{Answer, answer}
 use Rattle.definitions.specs.Reading.{Read}
 use Rattle.definitions.specs.Values.{Edited}
 use Rattle.definitions.specs.Writing.{Wrote}
+use Rattle.definitions.specs.Findings.{Noted}
 use Rattle.length.specs.declared.Length.{Length}
 
 -- values stored one after the other from a place on; every other place is as it was. The five lent places are known by their
@@ -47,6 +48,11 @@ pub record EditSays (e : Edited) (number : ℕ) (before after rows set : List �
 pub record WriteSays (w : Wrote) (number : ℕ) (before after output : List ℕ) : Type 0 where
   pub says : Says (w .said) number before after
   pub output-is : output ≡ w .output
+
+-- and of the findings: number and values, and the findings
+pub record FindingSays (d : Noted) (number : ℕ) (before after findings : List ℕ) : Type 0 where
+  pub says : Says (d .said) number before after
+  pub findings-are : findings ≡ d .findings
 
 -- the answer of a table check: passed, or refusal 4 with the first bad row
 abbrev pub checkAnswer : Option ℕ → Answer

@@ -3,6 +3,8 @@
 use edits::Edited;
 use elements::element::State;
 use elements::next::NextElement;
+use findings::Found;
+use findings::Log;
 use kept::Counted;
 use kept::Got;
 use kept::Pushed;
@@ -19,6 +21,7 @@ use writing::encode::Encoded;
 use writing::encode::Which;
 ghost use mathlib.Core.Path.{_≡_};
 ghost use mathlib.Core.List.{[], _∷_};
+ghost use Rattle.findings.specs.Findings.{logAs, foundAs};
 ghost use Rattle.definitions.specs.Basic.{answer};
 ghost use Rattle.definitions.specs.Logs.{orderEntry};
 ghost use Rattle.edits.specs.Edits.{editedAs};
@@ -251,6 +254,27 @@ pub fn encoded_said(encoded: Encoded, values: &mut [u64; 5]) -> u32
         Encoded::Unfit(place) => one(10, place as u64, values),
         Encoded::Malformed(which) => which_said(which, values),
         Encoded::NoOutput(need) => one(12, need, values),
+    }
+}
+
+fn log_said(log: Log, values: &mut [u64; 5]) -> u32
+    ensures { λ r. ⌜ Says (answer 11 (logAs log ∷ [])) r (now (values .entry)) (now (values .exit)) ⌝ }
+{
+    match log {
+        Log::Order => one(11, 1, values),
+        Log::Kept => one(11, 2, values),
+    }
+}
+
+pub fn found_said(found: Found, values: &mut [u64; 5]) -> u32
+    ensures { λ r. ⌜ Says (foundAs found) r (now (values .entry)) (now (values .exit)) ⌝ }
+{
+    match found {
+        Found::Findings(n) => one(0, n as u64, values),
+        Found::BadTable(row) => one(4, row as u64, values),
+        Found::TooLong => none(3, values),
+        Found::Malformed(log) => log_said(log, values),
+        Found::NoRoom => one(2, 4, values),
     }
 }
 

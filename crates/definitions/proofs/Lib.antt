@@ -11,6 +11,7 @@ pub mod FrameLaws
 pub mod LogLaws
 pub mod BitLaws
 pub mod Orders
+pub mod LogSteps
 pub mod Readings
 pub mod WriteLaws
 pub mod Mandatories

@@ -101,7 +101,13 @@ pub over-none : (n : ℕ) (d : List ℕ) → overAt n [] d ≡ d
 unfolding overAt over
 over-none n d = take-append-drop n d
 
--- three numbers stored from a position on
+-- two numbers stored from a position on, and three
+pub set-two : (n a b : ℕ) (d : List ℕ) → n + 2 ≤ length d → set (set d n a) (n + 1) b ≡ overAt n (a ∷ b ∷ []) d
+unfolding overAt over
+set-two n a b d h =
+    let e : drop 2 (drop n d) ≡ drop (n + 2) d = drop-drop 2 n d in
+    rw (add-one n, e) (sets-eq (a ∷ b ∷ []) d n h ∙ append-assoc (take n d) (a ∷ b ∷ []) (drop (n + 2) d))
+
 pub set-three : (n a b c : ℕ) (d : List ℕ) → n + 3 ≤ length d → set (set (set d n a) (n + 1) b) (n + 2) c ≡ overAt n (a ∷ b ∷ c ∷ []) d
 unfolding overAt over
 set-three n a b c d h =

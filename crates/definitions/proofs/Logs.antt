@@ -115,6 +115,28 @@ unfoldable pub keptBy : List ℕ → (List ℕ → Option (List (List ℕ))) →
 keptBy s rest none = none
 keptBy s rest (some c) = put (take (c .value) (drop (c .took) s)) (rest (drop (c .value) (drop (c .took) s)))
 
+-- what is known of an entry at the front
+abbrev pub Entry : List ℕ → Option Count → Type 0
+Entry s none = Unit
+Entry s (some c) = (c .value + c .took ≤ length s) × (1 ≤ c .value) × (1 ≤ c .took) × (length (leb128 (c .value)) ≡ c .took)
+
+pub entry-known : (s : List ℕ) → Entry s (entryOf s (countAt s))
+unfolding entryOf
+entry-known s = of (countAt s) (count-allowed s)
+  where
+    there : (c : Count) → Allowed (some c) → (b : Bool) → leb (c .value) (length (drop (c .took) s)) ≡ b → Entry s (pick b (some c) none)
+    there c p true e =
+        let h : c .value ≤ length s - c .took = rw length-drop at (leb-true (c .value) (length (drop (c .took) s)) e) in
+        (omega arith, p .0, p .3, p .2)
+    there c p false e = tt
+
+    of : (o : Option Count) → Allowed o → Entry s (entryOf s o)
+    of none p = tt
+    of (some c) p = there c p (leb (c .value) (length (drop (c .took) s))) refl
+
+pub entry-at-fits : (s : List ℕ) {c : Count} → entryOf s (countAt s) ≡ some c → Entry s (some c)
+entry-at-fits s e = rw e at (entry-known s)
+
 kept-entry : (s : List ℕ) (rest : List ℕ → Option (List (List ℕ))) (o : Option Count) → keptThen s rest o ≡ keptBy s rest (entryOf s o)
 unfolding keptThen keptBy entryOf
 kept-entry s rest none = refl

@@ -9,10 +9,10 @@ use mathlib.Core.Option.{Option, none, some, Option·getD}
 use mathlib.Core.Bool.{Bool, true, false, _&&_}
 use native.Mathlib.Nat.{suc-add, add-suc, add-zero, zero-add}
 use lib.Dec.{eqb, ltb, leb}
-use borrow.Author.Tests.{ltb-true, ltb-false, eq-eqb, ne-eqb}
+use borrow.Author.Tests.{ltb-true, ltb-false, leb-true, leb-false, eq-eqb, ne-eqb}
 use lib.ListN.{length, getD, take, drop, length-drop, length-take, List·getD-eq-default}
 use lib.Seq.{drop-drop, drop-nil, getD-take, getD-drop}
-use Rattle.definitions.specs.Rows.{Row, tlv-e, width, rowOf, rowsF, rowsOf, rowAt, ieis, form, formOf, firstIei, goodRow, mostPlaces, firstBadFrom, firstBad, placeOf, ieiOf, noPlace, indexEntry, indexFrom, index, placeIn}
+use Rattle.definitions.specs.Rows.{Row, Form, half, fixed, tlv, tlv-e, width, rowOf, rowsF, rowsOf, rowAt, ieis, form, formOf, firstIei, goodRow, mostPlaces, firstBadFrom, firstBad, placeOf, ieiOf, noPlace, indexEntry, indexFrom, index, placeIn}
 use Rattle.definitions.specs.Basic.{pick, among}
 use Rattle.definitions.proofs.RowLaws.{Bears, both, listed, passes}
 use Rattle.definitions.specs.Mandatory.{MandatoryRow, lv-e, mandatoryRowsF, mandatoryRowsOf, mandatoryRowAt, mandatoryFormOf}
@@ -173,6 +173,29 @@ index-place t p iei h = rw (index-at t iei noPlace h) (go (placeOf t iei) refl)
         let f : length t ≤ 128 = few-places t p in
         let m : min noPlace k ≡ k = omega arith in
         rw (m, ne-eqb k noPlace (omega arith))
+
+-- an IEI that a row lists is an octet
+listed-octet : (f : Form) (iei : ℕ) → Bears f iei → iei < 256
+listed-octet half iei b = omega arith
+listed-octet (fixed n) iei b = omega arith
+listed-octet tlv iei b = omega arith
+listed-octet tlv-e iei b = omega arith
+
+-- so that its index says the same of any number
+pub index-same : (t : List Row) → firstBad t ≡ none → (iei : ℕ) → placeIn (index t) iei ≡ placeOf t iei
+unfolding placeIn
+index-same t p iei = by (leb 256 iei) refl
+  where
+    nowhere : 256 ≤ iei → (o : Option ℕ) → placeOf t iei ≡ o → none ≡ o
+    nowhere h none e = refl
+    nowhere h (some k) e = absurd (omega (arith, listed-octet (form (rowAt t k)) iei (listed t iei k p e .formed)))
+
+    by : (b : Bool) → leb 256 iei ≡ b → placeIn (index t) iei ≡ placeOf t iei
+    by false e = index-place t p iei (leb-false 256 iei e)
+    by true e =
+        let h : 256 ≤ iei = leb-true 256 iei e in
+        let g : getD (index t) iei noPlace ≡ noPlace = List·getD-eq-default (index t) noPlace (omega (arith, index-length t)) in
+        rw g (nowhere h (placeOf t iei) refl)
 
 -- the IEI of an octet is an octet
 pub iei-octet : (x : ℕ) → x < 256 → ieiOf x < 256

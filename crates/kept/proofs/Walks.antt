@@ -6,38 +6,16 @@ use mathlib.Core.Path.{_≡_, refl, ap, ap₂, sym, _∙_}
 use mathlib.Core.List.{List, [], _∷_}
 use mathlib.Core.Bool.{Bool, true, false}
 use mathlib.Core.Option.{Option, none, some}
-use borrow.Author.Tests.{eq-eqb, ne-eqb, lt-ltb, le-ltb, eqb-true, eqb-false, ltb-true, ltb-false, leb-true}
+use borrow.Author.Tests.{eq-eqb, ne-eqb, lt-ltb, le-ltb, eqb-true, eqb-false, ltb-true, ltb-false}
 use lib.ListN.{length, take, drop, length-append, length-take, length-drop}
 use lib.Seq.{drop-drop}
-use lib.Dec.{eqb, ltb, leb}
+use lib.Dec.{eqb, ltb}
 use Rattle.definitions.specs.Basic.{pick}
 use Rattle.definitions.specs.Logs.{leb128, keptEntry, Count, countAt, put, keptList, keptAt}
-use Rattle.definitions.proofs.Logs.{entryOf, keptBy, kept-front, kept-nil, Allowed, count-allowed}
+use Rattle.definitions.proofs.Logs.{entryOf, keptBy, kept-front, kept-nil, Entry, entry-known}
 use Rattle.kept.specs.Kept.{passed, stepOf, foundBy, tell, startWalk}
 use Rattle.kept.specs.declared.Walk.{Walk}
 use Rattle.kept.specs.declared.Step.{Step}
-
--- what is known of an entry at the front
-abbrev pub Entry : List ℕ → Option Count → Type 0
-Entry s none = Unit
-Entry s (some c) = (c .value + c .took ≤ length s) × (1 ≤ c .value) × (1 ≤ c .took) × (length (leb128 (c .value)) ≡ c .took)
-
-pub entry-known : (s : List ℕ) → Entry s (entryOf s (countAt s))
-unfolding entryOf
-entry-known s = of (countAt s) (count-allowed s)
-  where
-    there : (c : Count) → Allowed (some c) → (b : Bool) → leb (c .value) (length (drop (c .took) s)) ≡ b → Entry s (pick b (some c) none)
-    there c p true e =
-        let h : c .value ≤ length s - c .took = rw length-drop at (leb-true (c .value) (length (drop (c .took) s)) e) in
-        (omega arith, p .0, p .3, p .2)
-    there c p false e = tt
-
-    of : (o : Option Count) → Allowed o → Entry s (entryOf s o)
-    of none p = tt
-    of (some c) p = there c p (leb (c .value) (length (drop (c .took) s))) refl
-
-pub entry-at-fits : (s : List ℕ) {c : Count} → entryOf s (countAt s) ≡ some c → Entry s (some c)
-entry-at-fits s e = rw e at (entry-known s)
 
 -- what a walk tells with an entry passed, and from before it
 module _ (w : Walk) (want : ℕ) (c : Count) (e : List ℕ) (n : length e ≡ c .value)

@@ -7,7 +7,7 @@ ghost use mathlib.Core.Path.{_≡_};
 ghost use mathlib.Core.List.{_∷_};
 ghost use Prim.Native.Nat.{_+_, _*_, _%_, _≤_, _<_};
 ghost use lib.ListN.{length, drop};
-ghost use Rattle.definitions.specs.Basic.{over};
+ghost use Rattle.definitions.specs.Basic.{over, tooLong};
 ghost use Rattle.definitions.specs.Logs.{leb128, keptEntry, countAt, allowed, keptList, keptPush, keptCount, keptGet, keptClear};
 ghost use Rattle.definitions.proofs.Logs.{entryOf};
 ghost use Rattle.kept.specs.Kept.{countOf, countFrom, stepOf, toldBy, tell, startWalk, pushedAs, countedAs, gotAs, usedOf, partOf, keptInto, keptTakes};
@@ -184,6 +184,16 @@ fn walk_kept(content: &[u8], want: usize) -> Walked
         }
     }
     Walked::Log(w.count, w.start, w.len)
+}
+
+// Whether a used count is above its buffer, or over a limit.
+pub fn too_long(buffer: &[u8], used: usize, most: usize) -> bool
+    ensures { λ r. ⌜ r ≡ tooLong most (usedOf (now (buffer .entry)) used) ⌝ }
+{
+    if used > buffer.len() {
+        return true;
+    }
+    used > most
 }
 
 // `UnknownIes::len`: how many elements there are.

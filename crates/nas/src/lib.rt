@@ -10,6 +10,7 @@ use answers::decoded_said;
 use answers::edited_said;
 use answers::encoded_said;
 use answers::entry_said;
+use answers::found_said;
 use answers::got_said;
 use answers::length_said;
 use answers::next_said;
@@ -20,6 +21,7 @@ use edits::clear_place;
 use edits::set_place;
 use elements::element::State;
 use elements::next::next_element;
+use findings::optional_ie_order_findings;
 use kept::kept_clear;
 use kept::kept_count;
 use kept::kept_get;
@@ -39,6 +41,7 @@ use writing::encode::encode_optional_ies_by;
 ghost use mathlib.Core.Path.{_≡_};
 ghost use mathlib.Core.Bool.{not};
 ghost use lib.Dec.{eqb};
+ghost use Rattle.definitions.specs.Findings.{finding};
 ghost use Rattle.definitions.specs.Length.{unknownLength};
 ghost use Rattle.definitions.specs.Logs.{keptPush, keptCount, keptGet, keptClear, orderGet};
 ghost use Rattle.definitions.specs.Mandatory.{mandatoryRowsOf, firstBadMandatory};
@@ -51,7 +54,7 @@ ghost use Rattle.reading.specs.Decodes.{lentOf};
 ghost use Rattle.elements.specs.Nexts.{nextOf};
 ghost use Rattle.nas.specs.Entries.{orderPushBy};
 ghost use Rattle.answers.specs.Nexts.{stateBy, NextSays};
-ghost use Rattle.answers.specs.Says.{Says, ReadSays, EditSays, WriteSays, checkAnswer, placeAnswer, lengthAnswer};
+ghost use Rattle.answers.specs.Says.{Says, ReadSays, EditSays, WriteSays, FindingSays, checkAnswer, placeAnswer, lengthAnswer};
 
 // The length of an unknown element from the octets from its first octet on: 0 and the length, or 1, cut short.
 #[no_mangle]
@@ -344,6 +347,26 @@ pub extern "C" fn nas_write_by<'a>(
             order_used,
             output,
         ),
+        values,
+    )
+}
+
+// What is wrong with the order of a part, by its logs: two numbers each, an entry of the order log from 0 and its kind from 1 to 5.
+// 0 and how many; 4 and the first bad row; 3; 11 and 1 or 2; 2 and 4.
+#[no_mangle]
+pub extern "C" fn nas_findings(
+    table: &[u32],
+    kept: &[u8],
+    kept_used: usize,
+    order: &[u8],
+    order_used: usize,
+    findings: &mut [u32],
+    values: &mut [u64; 5],
+) -> u32
+    ensures { λ r. ⌜ FindingSays (finding (now (table .entry)) (usedOf (now (order .entry)) «order_used») (usedOf (now (kept .entry)) «kept_used») (now (findings .entry))) r (now (values .entry)) (now (values .exit)) (now (findings .exit)) ⌝ }
+{
+    found_said(
+        optional_ie_order_findings(table, kept, kept_used, order, order_used, findings),
         values,
     )
 }

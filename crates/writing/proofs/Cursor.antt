@@ -16,7 +16,8 @@ use Rattle.definitions.specs.Values.{valueAt, present, octetsAt}
 use Rattle.definitions.specs.Logs.{Placed, knownIei, notKnown, ignored}
 use Rattle.definitions.specs.Writing.{Filled, encoded, elementAt, logged, addedFrom, below, notBelow, firsts, walked, written}
 use Rattle.definitions.proofs.RowLaws.{listed}
-use Rattle.writing.specs.Walks.{addedIn, addedPiece, addedOctets, nextOf, restOf, knownPiece, knownPlace, pieceOf, placeAfter, keptAfter, leftOf}
+use Rattle.definitions.proofs.LogSteps.{restOf, keptAfter}
+use Rattle.writing.specs.Walks.{addedIn, addedPiece, addedOctets, nextOf, knownPiece, knownPlace, pieceOf, placeAfter, leftOf}
 
 module _ (m : Filled) (s : ℕ) where
   -- ---- a place at a time

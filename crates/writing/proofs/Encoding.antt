@@ -16,9 +16,10 @@ use Rattle.definitions.specs.Logs.{Placed, keptList, orderList, orEmpty}
 use Rattle.definitions.specs.Values.{firstFrom, badRows, unfitAt, valuesTooLong}
 use Rattle.definitions.specs.Writing.{Filled, logged, walked, written, unfit, octetsIn, octetsFor, writingChecks, Wrote, writing}
 use Rattle.definitions.proofs.WriteLaws.{unwritten, write-long, write-rows, write-order, write-kept, write-values, write-unfit, write-short, write-done, loggedLength, walked-length}
+use Rattle.definitions.proofs.LogSteps.{keptFrom, KeptAt}
 use Rattle.kept.specs.Kept.{usedOf}
 use Rattle.values.specs.Rows.{sourcesOf}
-use Rattle.writing.specs.Walks.{filledOf, Writable, addedIn, addedOctets, keptFrom, KeptAt, leftOf}
+use Rattle.writing.specs.Walks.{filledOf, Writable, addedIn, addedOctets, leftOf}
 use Rattle.writing.specs.Sizes.{Tells}
 use Rattle.writing.specs.Encodes.{encodedAs, Encodes, usedUp, Limited}
 use Rattle.writing.specs.declared.encode.Which.{Which}

@@ -2,7 +2,6 @@
 pub mod Putting
 pub mod Cursor
 pub mod Places
-pub mod LogSteps
 pub mod Tallying
 pub mod Walking
 pub mod Encoding

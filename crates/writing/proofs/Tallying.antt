@@ -23,6 +23,7 @@ use Rattle.definitions.proofs.Orders.{order-nil}
 use Rattle.definitions.proofs.RowLaws.{listed}
 use Rattle.definitions.proofs.TableLaws.{few-places, index-place}
 use Rattle.definitions.proofs.WriteLaws.{loggedLength}
+use Rattle.definitions.proofs.LogSteps.{KeptEntry, OrderEntry}
 use Rattle.seen.specs.Seen.{setOf, seenOf, includingPlace}
 use Rattle.seen.specs.declared.Seen.{Seen}
 use Rattle.writing.specs.Walks.{IndexIs}
@@ -31,7 +32,6 @@ use Rattle.writing.specs.declared.sizes.Tally.{Tally}
 use Rattle.writing.specs.declared.sizes.Logged.{Logged}
 use Rattle.writing.specs.declared.sizes.Kept.{Kept}
 use Rattle.writing.proofs.Places.{encoded-length}
-use Rattle.writing.proofs.LogSteps.{KeptEntry, OrderEntry}
 
 -- ---- an entry
 

@@ -11,11 +11,11 @@ use Rattle.definitions.specs.Rows.{rowsOf, firstBad, placeOf}
 use Rattle.definitions.specs.Logs.{Placed, knownIei, notKnown, ignored, Reason, orderEntry, orderList, orEmpty}
 use Rattle.definitions.specs.Writing.{Filled}
 use Rattle.definitions.proofs.Orders.{orderFront}
+use Rattle.definitions.proofs.LogSteps.{keptFrom, KeptAt, orderFrom, OrderAt, keptAfter, order-next}
 use Rattle.writing.specs.Puts.{PutAt}
-use Rattle.writing.specs.Walks.{addedOctets, keptFrom, KeptAt, PutKept, orderFrom, OrderAt, knownPiece, knownPlace, pieceOf, placeAfter, keptAfter, PutEntry, leftOf, Left, Writing}
+use Rattle.writing.specs.Walks.{addedOctets, PutKept, knownPiece, knownPlace, pieceOf, placeAfter, PutEntry, leftOf, Left, Writing}
 use Rattle.writing.specs.declared.walk.Pen.{Pen}
 use Rattle.writing.proofs.Cursor.{left-step, place-inside, left-end}
-use Rattle.writing.proofs.LogSteps.{order-next}
 use Rattle.writing.proofs.Putting.{put-begun, put-room, put-step, put-ended, put-as}
 
 module _ (m : Filled) (s : ℕ) (kept : List ℕ) where

@@ -4,12 +4,13 @@ use mathlib.Core.Path.{_≡_}
 use mathlib.Core.List.{List, [], _∷_, _++_}
 use mathlib.Core.Bool.{Bool, true, false, _&&_, not}
 use mathlib.Core.Option.{Option, none, some}
-use lib.ListN.{length, drop}
+use lib.ListN.{length}
 use Rattle.definitions.specs.Basic.{pick, bit, overAt}
 use Rattle.definitions.specs.Rows.{Row, rowsOf, firstIei, firstBad, placeOf, index}
 use Rattle.definitions.specs.Values.{valueAt, present, unfitAt}
-use Rattle.definitions.specs.Logs.{Placed, knownIei, notKnown, ignored, keptList, orderList, orEmpty}
+use Rattle.definitions.specs.Logs.{Placed, knownIei, notKnown, ignored}
 use Rattle.definitions.specs.Writing.{Filled, elementAt, firsts, walked}
+use Rattle.definitions.proofs.LogSteps.{keptFrom, KeptAt, restOf, keptAfter}
 use Rattle.values.specs.Rows.{sourcesOf}
 use Rattle.writing.specs.Puts.{PutAt}
 use Rattle.writing.specs.declared.walk.Pen.{Pen}
@@ -42,23 +43,10 @@ addedOctets m set from to = firsts m (addedIn m set from (to - from))
 
 -- ---- the kept log
 
--- what is left of it from a position on
-unfoldable pub keptFrom : List ℕ → ℕ → List (List ℕ)
-keptFrom kept at = orEmpty (keptList (drop at kept))
-
--- a position at which the rest of the log is well formed
-pub record KeptAt (kept : List ℕ) (at : ℕ) : Type 0 where
-  pub inside : at ≤ length kept
-  pub formed : keptList (drop at kept) ≡ some (keptFrom kept at)
-
--- the next element, if there is one, and the others
+-- the next element, if there is one
 unfoldable pub nextOf : List (List ℕ) → List ℕ
 nextOf [] = []
 nextOf (e ∷ es) = e
-
-unfoldable pub restOf : List (List ℕ) → List (List ℕ)
-restOf [] = []
-restOf (e ∷ es) = es
 
 -- behind the next kept element
 pub record PutKept (kept : List ℕ) (p : Pen) (before : List ℕ) (r : Pen) (after : List ℕ) : Type 0 where
@@ -67,16 +55,6 @@ pub record PutKept (kept : List ℕ) (p : Pen) (before : List ℕ) (r : Pen) (af
   pub rest : keptFrom kept (r .kept) ≡ restOf (keptFrom kept (p .kept))
   pub further : p .kept < length kept → p .kept < r .kept
   pub place : r .place ≡ p .place
-
--- ---- the order log
-
--- what is left of it from a position on, and a position at which that is well formed
-unfoldable pub orderFrom : List ℕ → ℕ → List Placed
-orderFrom order at = orEmpty (orderList (drop at order))
-
-pub record OrderAt (order : List ℕ) (at : ℕ) : Type 0 where
-  pub inside : at ≤ length order
-  pub formed : orderList (drop at order) ≡ some (orderFrom order at)
 
 -- ---- an entry
 
@@ -95,16 +73,11 @@ pieceOf m set (knownIei i) from ks = knownPiece m set i from (placeOf (m .table)
 pieceOf m set notKnown from ks = nextOf ks
 pieceOf m set (ignored r) from ks = nextOf ks
 
--- and both behind it
+-- and that place behind it
 unfoldable pub placeAfter : List Row → Placed → ℕ → ℕ
 placeAfter t (knownIei i) from = knownPlace from (placeOf t i)
 placeAfter t notKnown from = from
 placeAfter t (ignored r) from = from
-
-unfoldable pub keptAfter : Placed → List (List ℕ) → List (List ℕ)
-keptAfter (knownIei i) ks = ks
-keptAfter notKnown ks = restOf ks
-keptAfter (ignored r) ks = restOf ks
 
 -- behind an entry
 pub record PutEntry (m : Filled) (set : ℕ) (kept : List ℕ) (e : Placed) (p : Pen) (before : List ℕ) (r : Pen) (after : List ℕ) : Type 0 where

@@ -26,10 +26,11 @@ ghost use Rattle.definitions.specs.Rows.{rowsOf, rowAt, form, placeOf};
 ghost use Rattle.definitions.specs.Logs.{orderList, orEmpty};
 ghost use Rattle.definitions.specs.Writing.{elementAt};
 ghost use Rattle.definitions.proofs.RowLaws.{Bears};
+ghost use Rattle.definitions.proofs.LogSteps.{KeptAt, keptFrom};
 ghost use Rattle.order.specs.Order.{placedAs};
 ghost use Rattle.seen.specs.Seen.{setOf};
 ghost use Rattle.writing.specs.Puts.{PutAt};
-ghost use Rattle.writing.specs.Walks.{filledOf, Writable, IndexIs, addedPiece, addedOctets, KeptAt, keptFrom, nextOf, PutKept, knownPiece, knownPlace, pieceOf, PutEntry, leftOf, Writing};
+ghost use Rattle.writing.specs.Walks.{filledOf, Writable, IndexIs, addedPiece, addedOctets, nextOf, PutKept, knownPiece, knownPlace, pieceOf, PutEntry, leftOf, Writing};
 
 // Where writing is: the position in the output, the position in the kept log, and the place below which every added element is
 // written.

@@ -5,11 +5,10 @@ use mathlib.Core.Path.{_≡_, sym, _∙_}
 use lib.ListN.{drop, length-drop}
 use borrow.Author.Tests.{eq-eqb, ne-eqb}
 use Rattle.definitions.specs.Logs.{countAt}
-use Rattle.definitions.proofs.Logs.{entryOf}
+use Rattle.definitions.proofs.Logs.{entryOf, entry-at-fits}
 use Rattle.definitions.proofs.Lists.{to-end}
 use Rattle.kept.specs.Kept.{passed, countOf}
 use Rattle.kept.proofs.Counts.{count-is, count-not}
-use Rattle.kept.proofs.Walks.{entry-at-fits}
 use borrow.Author.Needs.{needs}
 use Rattle.kept.proofs.kept_step.Statement.{statement}
 use Rattle.kept.proofs.kept_step.Tie as tie

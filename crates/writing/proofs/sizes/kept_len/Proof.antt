@@ -8,8 +8,8 @@ use lib.ListN.{length, drop}
 use Rattle.definitions.specs.Logs.{countAt}
 use Rattle.definitions.proofs.Logs.{entryOf}
 use Rattle.definitions.proofs.Lists.{to-end}
+use Rattle.definitions.proofs.LogSteps.{KeptEntry, kept-split, kept-stop}
 use Rattle.kept.proofs.Counts.{count-is, count-not}
-use Rattle.writing.proofs.LogSteps.{KeptEntry, kept-split, kept-stop}
 use Rattle.writing.proofs.Tallying.{Keeping, keeping-begun, keeping-step, keeping-ended}
 use borrow.Author.Needs.{needs}
 use Rattle.writing.proofs.sizes.kept_len.Statement.{statement}

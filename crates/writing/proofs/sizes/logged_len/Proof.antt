@@ -7,9 +7,9 @@ use mathlib.Core.Option.{none, some}
 use lib.ListN.{length, drop}
 use Rattle.definitions.proofs.Orders.{orderFront}
 use Rattle.definitions.proofs.Lists.{to-end}
+use Rattle.definitions.proofs.LogSteps.{OrderEntry, order-split, order-stop}
 use Rattle.order.specs.Order.{placedAs, frontAs}
 use Rattle.writing.specs.Walks.{filledOf}
-use Rattle.writing.proofs.LogSteps.{OrderEntry, order-split, order-stop}
 use Rattle.writing.proofs.Tallying.{Logging, logging-begun, logging-step, logging-ended}
 use borrow.Author.Needs.{needs}
 use Rattle.writing.proofs.sizes.logged_len.Statement.{statement}

@@ -8,10 +8,10 @@ use lib.ListN.{length, drop}
 use Rattle.definitions.specs.Logs.{orderList, orEmpty}
 use Rattle.definitions.proofs.Orders.{orderFront}
 use Rattle.definitions.proofs.Lists.{to-end}
+use Rattle.definitions.proofs.LogSteps.{keptFrom, orderFrom, OrderAt, OrderEntry, order-split, order-never, order-over}
 use Rattle.order.specs.Order.{placedAs, frontAs}
 use Rattle.seen.specs.Seen.{setOf}
-use Rattle.writing.specs.Walks.{filledOf, keptFrom, orderFrom, OrderAt, leftOf, Writing}
-use Rattle.writing.proofs.LogSteps.{OrderEntry, order-split, order-never, order-over}
+use Rattle.writing.specs.Walks.{filledOf, leftOf, Writing}
 use Rattle.writing.proofs.Putting.{put-begun}
 use Rattle.writing.proofs.Walking.{walk-room, walk-step}
 use borrow.Author.Needs.{needs}

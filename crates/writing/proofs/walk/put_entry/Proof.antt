@@ -1,5 +1,6 @@
 -- `put_entry` writes by the entry: a known one by its place, any other as the next kept element.
 -- Each arm names the entry.
+use Rattle.definitions.proofs.LogSteps.{keptFrom}
 use Prim.Native.Nat.{_≤_}
 use native.Mathlib.Omega.{arith}
 use mathlib.Core.Path.{_≡_, ap}
@@ -7,7 +8,7 @@ use lib.ListN.{length}
 use Rattle.order.specs.Order.{placedAs}
 use Rattle.order.specs.declared.Placed.{Placed}
 use Rattle.seen.specs.Seen.{setOf}
-use Rattle.writing.specs.Walks.{filledOf, keptFrom, pieceOf}
+use Rattle.writing.specs.Walks.{filledOf, pieceOf}
 use Rattle.writing.proofs.Walking.{entry-known, entry-unknown, entry-ignored}
 use borrow.Author.Needs.{needs}
 use Rattle.writing.proofs.walk.put_entry.Statement.{statement}

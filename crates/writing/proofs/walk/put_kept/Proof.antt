@@ -10,10 +10,10 @@ use borrow.Rule.Slice.PartMut.{putMid}
 use Rattle.definitions.specs.Logs.{countAt}
 use Rattle.definitions.proofs.Logs.{entryOf}
 use Rattle.definitions.proofs.Lists.{to-end, length-overAt}
+use Rattle.definitions.proofs.LogSteps.{keptFrom, KeptAt, restOf, KeptEntry, kept-split, kept-next, kept-over, kept-none}
 use Rattle.kept.proofs.Counts.{count-is, count-not}
 use Rattle.writing.specs.Puts.{PutAt}
-use Rattle.writing.specs.Walks.{keptFrom, KeptAt, nextOf, restOf}
-use Rattle.writing.proofs.LogSteps.{KeptEntry, kept-split, kept-next, kept-over, kept-none}
+use Rattle.writing.specs.Walks.{nextOf}
 use Rattle.writing.proofs.Putting.{put-octets, put-nothing}
 use borrow.Author.Needs.{needs}
 use Rattle.writing.proofs.walk.put_kept.Statement.{statement}

@@ -5,9 +5,9 @@ use native.Mathlib.Omega.{arith}
 use mathlib.Core.Path.{ap, sym, _∙_}
 use lib.ListN.{length}
 use Rattle.definitions.specs.Basic.{concat}
-use Rattle.writing.specs.Walks.{KeptAt, keptFrom, nextOf, restOf, Left}
+use Rattle.definitions.proofs.LogSteps.{KeptAt, keptFrom, restOf, kept-over}
+use Rattle.writing.specs.Walks.{nextOf, Left}
 use Rattle.writing.proofs.Cursor.{next-rest}
-use Rattle.writing.proofs.LogSteps.{kept-over}
 use Rattle.writing.proofs.Putting.{put-begun, put-room, put-step, put-ended, put-as}
 use Rattle.writing.proofs.walk.put_left.Statement.{statement}
 use Rattle.writing.proofs.walk.put_left.Tie as tie

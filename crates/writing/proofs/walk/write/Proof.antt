@@ -6,8 +6,9 @@ use mathlib.Core.Path.{_≡_, ap, _∙_}
 use lib.ListN.{length}
 use Rattle.definitions.specs.Logs.{orderList, orEmpty}
 use Rattle.definitions.proofs.Lists.{length-over}
+use Rattle.definitions.proofs.LogSteps.{keptFrom}
 use Rattle.seen.specs.Seen.{setOf}
-use Rattle.writing.specs.Walks.{filledOf, keptFrom, leftOf}
+use Rattle.writing.specs.Walks.{filledOf, leftOf}
 use Rattle.writing.proofs.Walking.{end-room, rest-room, all-put}
 use borrow.Author.Needs.{needs}
 use Rattle.writing.proofs.walk.write.Statement.{statement}

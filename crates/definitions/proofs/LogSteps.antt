@@ -2,7 +2,7 @@
 -- By the laws of a log's first entry, at the rest of the log.
 use Prim.Native.Nat.{ℕ, _+_, _≤_, _<_}
 use native.Mathlib.Omega.{arith}
-use mathlib.Core.Path.{_≡_, refl, ap, ap₂, sym, _∙_}
+use mathlib.Core.Path.{_≡_, refl, ap, sym, _∙_}
 use mathlib.Core.List.{List, [], _∷_}
 use mathlib.Core.Option.{Option, none, some}
 use mathlib.Core.Bool.{Bool, true, false}
@@ -10,11 +10,37 @@ use borrow.Author.Tests.{ltb-true, ltb-false}
 use lib.Dec.{ltb}
 use lib.ListN.{length, take, drop, length-drop}
 use lib.Seq.{drop-drop}
-use Rattle.definitions.specs.Logs.{Placed, Count, countAt, put, keptList, orderEntry, orderList, orEmpty}
-use Rattle.definitions.proofs.Logs.{entryOf, keptBy, kept-nil, kept-front}
+use Rattle.definitions.specs.Logs.{Placed, knownIei, notKnown, ignored, Count, countAt, put, keptList, orderEntry, orderList, orEmpty}
+use Rattle.definitions.proofs.Logs.{entryOf, keptBy, kept-nil, kept-front, entry-at-fits}
 use Rattle.definitions.proofs.Orders.{orderFront, orderBy, order-nil, order-front, Fits, front-fits}
-use Rattle.kept.proofs.Walks.{entry-at-fits}
-use Rattle.writing.specs.Walks.{keptFrom, KeptAt, nextOf, restOf, orderFrom, OrderAt}
+
+-- ---- what is left of a log
+
+-- the kept elements from a position on, and a position at which the rest of the log is well formed
+unfoldable pub keptFrom : List ℕ → ℕ → List (List ℕ)
+keptFrom kept at = orEmpty (keptList (drop at kept))
+
+pub record KeptAt (kept : List ℕ) (at : ℕ) : Type 0 where
+  pub inside : at ≤ length kept
+  pub formed : keptList (drop at kept) ≡ some (keptFrom kept at)
+
+-- the same of the entries of the order log
+unfoldable pub orderFrom : List ℕ → ℕ → List Placed
+orderFrom order at = orEmpty (orderList (drop at order))
+
+pub record OrderAt (order : List ℕ) (at : ℕ) : Type 0 where
+  pub inside : at ≤ length order
+  pub formed : orderList (drop at order) ≡ some (orderFrom order at)
+
+-- the kept elements behind the next, and behind an entry of the order log: each but a known one takes the next, if there is one
+unfoldable pub restOf : List (List ℕ) → List (List ℕ)
+restOf [] = []
+restOf (e ∷ es) = es
+
+unfoldable pub keptAfter : Placed → List (List ℕ) → List (List ℕ)
+keptAfter (knownIei i) es = es
+keptAfter notKnown es = restOf es
+keptAfter (ignored r) es = restOf es
 
 -- what a list with an entry put in front is
 pub record PutIs {X : Type 0} (x : X) (o : Option (List X)) (xs : List X) : Type 0 where
@@ -36,6 +62,7 @@ module _ (kept : List ℕ) (at : ℕ) where
   pub record KeptEntry (c : Count) : Type 0 where
     pub within : at + c .took + c .value ≤ length kept
     pub count : 1 ≤ c .took
+    pub octet : 1 ≤ c .value
     pub splits : keptList (drop at kept) ≡ put (take (c .value) (drop (at + c .took) kept)) (keptList (drop (at + c .took + c .value) kept))
 
   pub kept-split : {c : Count} → at ≤ length kept → entryOf s (countAt s) ≡ some c → KeptEntry c
@@ -48,6 +75,7 @@ module _ (kept : List ℕ) (at : ℕ) where
       record {
         within = omega (arith, f .0);
         count = f .2;
+        octet = f .1;
         splits = kept-front s (omega (arith, f .0, f .2)) ∙ rw (e, d, d′);
       }
 

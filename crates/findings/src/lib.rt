@@ -1,0 +1,117 @@
+// What is wrong with the order of a part, by its two logs: for each finding the number of an entry of the order log and a kind.
+mod walk;
+
+use crate::walk::count_findings;
+use crate::walk::put_findings;
+use kept::Counted;
+use kept::MOST_LOG;
+use kept::kept_count;
+use kept::too_long;
+use order::Entry;
+use order::order_get;
+use rows::check::Checked;
+use rows::check::check_and_index;
+ghost use mathlib.Core.Path.{_≡_};
+ghost use mathlib.Core.Bool.{false};
+ghost use Rattle.definitions.specs.Basic.{content, tooLong, mostLog, isNone};
+ghost use Rattle.definitions.specs.Logs.{orderList, keptList};
+ghost use Rattle.definitions.specs.Findings.{finding};
+ghost use Rattle.kept.specs.Kept.{usedOf};
+ghost use Rattle.findings.specs.Findings.{Finds, findingIn, notedIn};
+ghost use Rattle.findings.specs.Walks.{Logs, allIn};
+
+// Which log is malformed.
+pub enum Log {
+    Order,
+    Kept,
+}
+
+// What is answered: how many findings there are, or a refusal.
+pub enum Found {
+    Findings(usize),
+    BadTable(usize),
+    TooLong,
+    Malformed(Log),
+    NoRoom,
+}
+
+// Whether a log, whose used count is not too long, is malformed.
+fn order_malformed(log: &[u8], used: usize) -> bool
+    requires { ⌜ tooLong mostLog (usedOf (now log) used) ≡ false ⌝ }
+    ensures { λ r. ⌜ r ≡ isNone (orderList (content (usedOf (now (log .entry)) used))) ⌝ }
+{
+    match order_get(log, used, 0) {
+        Entry::Is(_) => false,
+        Entry::PastLast => false,
+        Entry::TooLong => false,
+        Entry::Malformed => true,
+    }
+}
+
+fn kept_malformed(log: &[u8], used: usize) -> bool
+    requires { ⌜ tooLong mostLog (usedOf (now log) used) ≡ false ⌝ }
+    ensures { λ r. ⌜ r ≡ isNone (keptList (content (usedOf (now (log .entry)) used))) ⌝ }
+{
+    match kept_count(log, used) {
+        Counted::Elements(_) => false,
+        Counted::TooLong => false,
+        Counted::Malformed => true,
+    }
+}
+
+// By two logs that are well formed: counted first, and written if there is room for all.
+fn find(index: &[u8], order: &[u8], kept: &[u8], findings: &mut [u32]) -> Found
+    requires { ⌜ Logs (now order) (now kept) ⌝ }
+    ensures { λ r. ⌜ Finds (notedIn (allIn (now (index .entry)) (now (order .entry)) (now (kept .entry))) (now (findings .entry))) r (now (findings .exit)) ⌝ }
+{
+    let n = count_findings(index, order, kept);
+    if findings.len() < 2 * n {
+        return Found::NoRoom;
+    }
+    put_findings(index, order, kept, findings);
+    Found::Findings(n)
+}
+
+// The checks behind the table's, by the index of a table that passes.
+fn find_by_index(
+    index: &[u8],
+    kept: &[u8],
+    kept_used: usize,
+    order: &[u8],
+    order_used: usize,
+    findings: &mut [u32],
+) -> Found
+    ensures { λ r. ⌜ Finds (findingIn (now (index .entry)) (usedOf (now (order .entry)) «order_used») (usedOf (now (kept .entry)) «kept_used») (now (findings .entry))) r (now (findings .exit)) ⌝ }
+{
+    if too_long(order, order_used, MOST_LOG) {
+        return Found::TooLong;
+    }
+    if too_long(kept, kept_used, MOST_LOG) {
+        return Found::TooLong;
+    }
+    if order_malformed(order, order_used) {
+        return Found::Malformed(Log::Order);
+    }
+    if kept_malformed(kept, kept_used) {
+        return Found::Malformed(Log::Kept);
+    }
+    find(index, &order[..order_used], &kept[..kept_used], findings)
+}
+
+// `optional_ie_order_findings`: two numbers each, an entry's number and its kind, into the front of the lent findings.
+pub fn optional_ie_order_findings(
+    table: &[u32],
+    kept: &[u8],
+    kept_used: usize,
+    order: &[u8],
+    order_used: usize,
+    findings: &mut [u32],
+) -> Found
+    ensures { λ r. ⌜ Finds (finding (now (table .entry)) (usedOf (now (order .entry)) «order_used») (usedOf (now (kept .entry)) «kept_used») (now (findings .entry))) r (now (findings .exit)) ⌝ }
+{
+    let mut index = [255u8; 256];
+    match check_and_index(table, &mut index) {
+        Checked::Passes => { find_by_index(&index, kept, kept_used, order, order_used, findings) }
+        Checked::BadRow(k) => Found::BadTable(k),
+    }
+}
