@@ -2,7 +2,7 @@
 -- By the laws of a log's first entry, at the rest of the log.
 use Prim.Native.Nat.{ℕ, _+_, _≤_, _<_}
 use native.Mathlib.Omega.{arith}
-use mathlib.Core.Path.{_≡_, refl, ap, ap₂, sym, _∙_}
+use mathlib.Core.Path.{_≡_, refl, ap, sym, _∙_}
 use mathlib.Core.List.{List, [], _∷_}
 use mathlib.Core.Option.{Option, none, some}
 use mathlib.Core.Bool.{Bool, true, false}
@@ -14,7 +14,7 @@ use Rattle.definitions.specs.Logs.{Placed, Count, countAt, put, keptList, order
 use Rattle.definitions.proofs.Logs.{entryOf, keptBy, kept-nil, kept-front}
 use Rattle.definitions.proofs.Orders.{orderFront, orderBy, order-nil, order-front, Fits, front-fits}
 use Rattle.kept.proofs.Walks.{entry-at-fits}
-use Rattle.writing.specs.Walks.{keptFrom, KeptAt, nextOf, restOf, orderFrom, OrderAt}
+use Rattle.writing.specs.Walks.{keptFrom, KeptAt, orderFrom, OrderAt}
 
 -- what a list with an entry put in front is
 pub record PutIs {X : Type 0} (x : X) (o : Option (List X)) (xs : List X) : Type 0 where

@@ -1,6 +1,5 @@
 -- `put_entry` writes by the entry: a known one by its place, any other as the next kept element.
 -- Each arm names the entry.
-use Prim.Native.Nat.{_≤_}
 use native.Mathlib.Omega.{arith}
 use mathlib.Core.Path.{_≡_, ap}
 use lib.ListN.{length}
