@@ -13,11 +13,12 @@ use borrow.Author.Tests.{le-ltb, ltb-false}
 use Rattle.definitions.specs.Basic.{pick, isNone, concat, refusal, refuse, refuseAt, unless, over, Used, content, tooLong, mostOctets, mostLog}
 use Rattle.definitions.specs.Rows.{Row, rowsOf, firstBad}
 use Rattle.definitions.specs.Elements.{Element, Parted, elements, cutShort, parted, elementsOf, isAccepted}
-use Rattle.definitions.specs.Logs.{Placed, placedOf, keptOf, keptList, entriesOf, plainFrom, orderOf, orderList, orEmpty}
+use Rattle.definitions.specs.Logs.{Placed, placedOf, keptOf, keptList, entriesOf, plainFrom, orderOf, orderList}
 use Rattle.definitions.specs.Reading.{Lent, Read, unread, placeRow, placeRowsFrom, placeRows, cutOf, readingChecks, readElements, reading}
 use Rattle.definitions.specs.Values.{Octets, valueAt, firstFrom, goodValue, badRows, unfitAt, valuesTooLong}
-use Rattle.definitions.specs.Writing.{Filled, logged, addedFrom, walked, written, unfit, octetsIn, octetsFor, writingChecks, writing}
+use Rattle.definitions.specs.Writing.{Filled, logged, addedFrom, walked, written, unfit, writing}
 use Rattle.definitions.proofs.Steps.{reads}
+use Rattle.definitions.proofs.WriteLaws.{write-done as done-by}
 use Rattle.definitions.proofs.LogLaws.{Storable, kept-back, asideOf, kept-log, orderLog, order-back, order-log}
 use Rattle.promises.specs.Joined.{joined, Follow}
 use Rattle.promises.specs.Room.{Readable}
@@ -110,9 +111,9 @@ write-done : (table rows part : List ℕ) (set order kept : Used) (output out : 
     → unfit (rowsOf table) (record { received = part; set = content set }) rows ≡ none
     → written (record { table = rowsOf table; rows = rows; octets = record { received = part; set = content set } }) ps ks ≡ out → length out ≤ length output
     → writing table rows part set order kept output ≡ gives out output
-unfolding writing writingChecks refusal octetsFor octetsIn isNone orEmpty gives
+unfolding gives
 write-done table rows part set order kept output out ps ks a b c d e f g h i j k =
-    rw (a, b, c, d, le-ltb (length rows) (3 * length (rowsOf table)) e, f, g, h, i, j, le-ltb (length output) (length out) k)
+    done-by table rows part set order kept output a (rw (b, c, d)) e ps f ks g h i (rw j k) ∙ rw j
 
 module _ (table : List ℕ) (start : ℕ) (option : Bool) (part : List ℕ) (l : Lent) (set output : List ℕ) (es : List Element) (small : AreOctets part)
     (h : Readable table part) (p : parted (rowsOf table) start option part ≡ elements es) (n : length part ≤ length output) where

@@ -7,14 +7,14 @@ use mathlib.Core.List.{List, [], _∷_}
 use mathlib.Core.Bool.{Bool, true, false, _||_, false≢true}
 use mathlib.Core.Option.{Option, none, some}
 use borrow.Author.Tests.{lt-ltb, le-ltb, ltb-true, ltb-false}
-use lib.ListN.{length, take, drop, length-take}
+use lib.ListN.{length, take, length-take}
 use lib.Seq.{take-all}
 use lib.Dec.{ltb}
-use Rattle.definitions.specs.Basic.{pick, isNone, among, bit, concat, Answer, answer, refusal, over, Used, content, tooLong, mostOctets, mostLog}
+use Rattle.definitions.specs.Basic.{pick, among, bit, concat, Answer, answer, over, content, tooLong, mostOctets, mostLog}
 use Rattle.definitions.specs.Rows.{Row, rowsOf, firstBad, index}
 use Rattle.definitions.specs.Logs.{Placed, keptList, orderList, orEmpty}
 use Rattle.definitions.specs.Values.{firstFrom, badRows, unfitAt, valuesTooLong}
-use Rattle.definitions.specs.Writing.{Filled, logged, walked, written, unfit, octetsIn, octetsFor, writingChecks, Wrote, writing}
+use Rattle.definitions.specs.Writing.{Filled, logged, written, unfit, octetsIn, octetsFor, writingChecks, Wrote, writing}
 use Rattle.definitions.proofs.WriteLaws.{unwritten, write-long, write-rows, write-order, write-kept, write-values, write-unfit, write-short, write-done, loggedLength, walked-length}
 use Rattle.definitions.proofs.LogSteps.{keptFrom, KeptAt}
 use Rattle.kept.specs.Kept.{usedOf}

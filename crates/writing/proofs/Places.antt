@@ -1,10 +1,10 @@
 -- The element of a place by the numbers of its row: none of an absent one, else its value in its form; how many octets it takes, and
 -- whether it fits. Each by whether the source is 0.
-use Prim.Native.Nat.{ℕ, zero, suc, _+_, _≤_}
+use Prim.Native.Nat.{ℕ, zero, suc, _≤_}
 use native.Mathlib.Omega.{arith}
 use mathlib.Core.Path.{_≡_, refl, ap, sym, _∙_}
 use mathlib.Core.List.{List, []}
-use mathlib.Core.Bool.{Bool, true, false, _&&_, not, false≢true}
+use mathlib.Core.Bool.{Bool, true, false, not, false≢true}
 use borrow.Author.Tests.{le-leb}
 use lib.ListN.{length, length-take, length-drop}
 use Rattle.definitions.specs.Rows.{Form, half, fixed, tlv, tlv-e, rowsOf, rowAt, form}

@@ -1,6 +1,6 @@
 -- Both logs measured an entry at a time: with what is left the tally is that of the whole log.
 -- Each step moves an entry from what is left into the tally; a log that is malformed further on is malformed.
-use Prim.Native.Nat.{ℕ, suc, _+_, _-_, _*_, _/_, _%_, _^_, _≤_, _<_}
+use Prim.Native.Nat.{ℕ, suc, _+_, _-_, _*_, _/_, _^_, _≤_, _<_}
 use native.Mathlib.Omega.{arith}
 use native.Mathlib.Numerals.{add-one}
 use native.Mathlib.Nat.{div-add-mod', zero-div}

@@ -2,13 +2,13 @@
 -- The entry at the front of the order log says which piece comes next; the pieces are put one behind the other.
 use Prim.Native.Nat.{ℕ, _+_, _≤_, _<_}
 use native.Mathlib.Omega.{arith}
-use mathlib.Core.Path.{_≡_, refl, ap, ap₂, sym, _∙_}
-use mathlib.Core.List.{List, [], _∷_, _++_}
+use mathlib.Core.Path.{_≡_, ap, ap₂, sym, _∙_}
+use mathlib.Core.List.{List, [], _++_}
 use mathlib.Core.Option.{none, some}
 use lib.ListN.{length, drop}
 use Rattle.definitions.specs.Basic.{over, overAt, concat}
-use Rattle.definitions.specs.Rows.{rowsOf, firstBad, placeOf}
-use Rattle.definitions.specs.Logs.{Placed, knownIei, notKnown, ignored, Reason, orderEntry, orderList, orEmpty}
+use Rattle.definitions.specs.Rows.{firstBad, placeOf}
+use Rattle.definitions.specs.Logs.{Placed, knownIei, notKnown, ignored, Reason, orderEntry}
 use Rattle.definitions.specs.Writing.{Filled}
 use Rattle.definitions.proofs.Orders.{orderFront}
 use Rattle.definitions.proofs.LogSteps.{keptFrom, KeptAt, orderFrom, OrderAt, keptAfter, order-next}
@@ -16,7 +16,7 @@ use Rattle.writing.specs.Puts.{PutAt}
 use Rattle.writing.specs.Walks.{addedOctets, PutKept, knownPiece, knownPlace, pieceOf, placeAfter, PutEntry, leftOf, Left, Writing}
 use Rattle.writing.specs.declared.walk.Pen.{Pen}
 use Rattle.writing.proofs.Cursor.{left-step, place-inside, left-end}
-use Rattle.writing.proofs.Putting.{put-begun, put-room, put-step, put-ended, put-as}
+use Rattle.writing.proofs.Putting.{put-room, put-step, put-as}
 
 module _ (m : Filled) (s : ℕ) (kept : List ℕ) where
   -- ---- an entry

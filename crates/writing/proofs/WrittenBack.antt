@@ -1,19 +1,19 @@
 -- Reading a part and writing the untouched result gives the part: the theorem `RoundTrip` over the definitions, carried through the
 -- contracts of `decode_optional_ies` and `encode_optional_ies`. What the first answers and leaves is what the second is handed.
 use Prim.Native.Nat.{ℕ, _≤_}
-use mathlib.Core.Path.{_≡_, refl, ap, sym, _∙_}
-use mathlib.Core.List.{List, [], _∷_}
+use mathlib.Core.Path.{_≡_, ap, sym, _∙_}
+use mathlib.Core.List.{List}
 use mathlib.Core.Bool.{Bool}
 use lib.ListN.{length}
-use Rattle.definitions.specs.Basic.{Answer, answer, over}
-use Rattle.definitions.specs.Reading.{Lent, Read, reading}
+use Rattle.definitions.specs.Basic.{Answer, over}
+use Rattle.definitions.specs.Reading.{Read, reading}
 use Rattle.definitions.specs.Writing.{Wrote, writing}
 use Rattle.promises.specs.RoundTrip.{AreOctets, writtenBack, gives}
 use Rattle.promises.proofs.RoundTrip.{round-trip}
 use Rattle.kept.specs.Kept.{usedOf}
 use Rattle.reading.specs.Decodes.{lentOf, Reads}
 use Rattle.reading.specs.declared.decode.Decoded.{Decoded}
-use Rattle.writing.specs.Encodes.{encodedAs, Encodes}
+use Rattle.writing.specs.Encodes.{Encodes}
 use Rattle.writing.specs.declared.encode.Encoded.{Encoded}
 use Rattle.writing.proofs.SameAnswers.{same-encoded}
 

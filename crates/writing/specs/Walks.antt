@@ -2,7 +2,7 @@
 use Prim.Native.Nat.{ℕ, zero, suc, _+_, _-_, _≤_, _<_, max}
 use mathlib.Core.Path.{_≡_}
 use mathlib.Core.List.{List, [], _∷_, _++_}
-use mathlib.Core.Bool.{Bool, true, false, _&&_, not}
+use mathlib.Core.Bool.{false, _&&_, not}
 use mathlib.Core.Option.{Option, none, some}
 use lib.ListN.{length}
 use Rattle.definitions.specs.Basic.{pick, bit, overAt}

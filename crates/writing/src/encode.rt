@@ -8,6 +8,7 @@ use crate::sizes::kept_len;
 use crate::sizes::logged_len;
 use crate::walk::write;
 use kept::MOST_LOG;
+use kept::too_long;
 use octets::MOST_OCTETS;
 use real::INDEX_P;
 use real::INDEX_PDU_SESSION_ESTABLISHMENT_ACCEPT;
@@ -29,7 +30,6 @@ use rows::columns::places;
 use values::row::any_bad;
 ghost use mathlib.Core.Path.{_≡_};
 ghost use mathlib.Core.Option.{none};
-ghost use Rattle.definitions.specs.Basic.{tooLong};
 ghost use Rattle.definitions.specs.Rows.{rowsOf, firstBad};
 ghost use Rattle.definitions.specs.Writing.{writing, writingBy};
 ghost use Rattle.kept.specs.Kept.{usedOf};
@@ -54,16 +54,6 @@ pub enum Encoded {
     Unfit(usize),
     Malformed(Which),
     NoOutput(u64),
-}
-
-// Whether a used count is above its buffer or over a limit.
-fn too_long(buffer: &[u8], used: usize, most: usize) -> bool
-    ensures { λ r. ⌜ r ≡ tooLong most (usedOf (now (buffer .entry)) used) ⌝ }
-{
-    if used > buffer.len() {
-        return true;
-    }
-    used > most
 }
 
 // By a table that passes and its index, of the octets that are used, with a row for each place.

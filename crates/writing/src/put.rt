@@ -1,11 +1,10 @@
 // One element into the rest of the output: its IEI, its length field, its value.
 use octets::put_slice;
 use rows::columns::Form;
-ghost use mathlib.Core.Path.{_≡_};
 ghost use mathlib.Core.List.{_∷_};
 ghost use Prim.Native.Nat.{_+_, _≤_, _/_, _%_};
 ghost use lib.ListN.{length};
-ghost use Rattle.definitions.specs.Rows.{half, fixed, tlv, tlv-e};
+ghost use Rattle.definitions.specs.Rows.{half};
 ghost use Rattle.definitions.specs.Writing.{encoded};
 ghost use Rattle.rows.specs.Forms.{formAs};
 ghost use Rattle.writing.specs.Puts.{Writes, Put};

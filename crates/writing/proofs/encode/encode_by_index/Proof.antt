@@ -1,9 +1,8 @@
 -- `encode_by_index` makes the checks of the lengths, and writes from the octets that are used.
 -- What is behind those does not matter.
-use Prim.Native.Nat.{_*_, _≤_}
 use native.Mathlib.Omega.{arith}
 use mathlib.Core.Path.{_≡_, sym, _∙_}
-use lib.ListN.{length, length-take}
+use lib.ListN.{length-take}
 use Rattle.definitions.specs.Rows.{rowsOf}
 use Rattle.definitions.proofs.TableLaws.{few-places}
 use Rattle.writing.proofs.Encoding.{moved, long-received, long-set, long-order, long-kept, no-rows, within, limited, by-content}

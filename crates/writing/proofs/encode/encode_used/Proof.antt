@@ -1,6 +1,5 @@
 -- `encode_used` makes the checks in their order, measures and writes.
 -- Each way out cites the law of its check; what was measured is as long as what is written.
-use Prim.Native.Nat.{_+_, _≤_}
 use native.Mathlib.Omega.{arith}
 use mathlib.Core.Path.{_≡_, ap, sym, _∙_}
 use lib.ListN.{length}

@@ -1,6 +1,6 @@
 -- `put_tlve` stores the IEI and the length, its high octet first, and lends the rest for the value.
 -- The two pieces together are the element.
-use Prim.Native.Nat.{_+_, _-_, _≤_, _/_, _%_}
+use Prim.Native.Nat.{_-_, _/_, _%_}
 use native.Mathlib.Omega.{arith}
 use mathlib.Core.Path.{_≡_, refl, ap, _∙_}
 use mathlib.Core.List.{[], _∷_}

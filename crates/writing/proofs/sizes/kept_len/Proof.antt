@@ -3,7 +3,6 @@
 use Prim.Native.Nat.{_-_}
 use native.Mathlib.Omega.{arith}
 use mathlib.Core.Path.{_≡_, sym, _∙_}
-use mathlib.Core.Option.{some}
 use lib.ListN.{length, drop}
 use Rattle.definitions.specs.Logs.{countAt}
 use Rattle.definitions.proofs.Logs.{entryOf}

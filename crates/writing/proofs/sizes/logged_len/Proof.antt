@@ -1,6 +1,6 @@
 -- `logged_len` passes an entry a turn: the invariant says that the tally with the entries left is that of the whole log.
 -- The measure is what is left of the log.
-use Prim.Native.Nat.{_+_, _-_}
+use Prim.Native.Nat.{_-_}
 use native.Mathlib.Omega.{arith}
 use mathlib.Core.Path.{_≡_, ap, sym, _∙_}
 use mathlib.Core.Option.{none, some}

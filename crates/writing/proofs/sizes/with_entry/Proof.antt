@@ -4,7 +4,6 @@ use Prim.Native.Nat.{_<_}
 use native.Mathlib.Omega.{arith}
 use mathlib.Core.Path.{_≡_, ap, sym, _∙_}
 use Rattle.definitions.specs.Rows.{rowsOf, placeOf}
-use Rattle.order.specs.Order.{reasonAs}
 use Rattle.rows.specs.Answers.{placeAs}
 use Rattle.writing.specs.Walks.{filledOf}
 use Rattle.writing.proofs.Tallying.{place-found, place-low, tallied-known, tallied-nowhere, tallied-unknown, tallied-ignored}

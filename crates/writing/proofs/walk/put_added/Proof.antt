@@ -1,6 +1,6 @@
 -- `put_added` takes a place a turn: the invariant says that what is left of the added elements gives the buffer of all of them.
 -- The measure is how many places are left.
-use Prim.Native.Nat.{_+_, _-_, _≤_}
+use Prim.Native.Nat.{_+_, _-_}
 use native.Mathlib.Omega.{arith}
 use mathlib.Core.List.{_++_}
 use Rattle.seen.specs.Seen.{setOf}

@@ -1,6 +1,6 @@
 -- `put_entries` writes an entry a turn: the invariant says that what is left to write gives the output of the whole.
 -- The measure is what is left of the log.
-use Prim.Native.Nat.{_+_, _-_}
+use Prim.Native.Nat.{_-_}
 use native.Mathlib.Omega.{arith}
 use mathlib.Core.Path.{_≡_, ap, sym, _∙_}
 use mathlib.Core.Option.{none, some}

@@ -1,6 +1,5 @@
 -- `put_first` writes nothing of a logged place, and of another its element under the first IEI.
 -- That IEI is one of the place's form.
-use Prim.Native.Nat.{_≤_}
 use native.Mathlib.Omega.{arith}
 use mathlib.Core.Path.{_≡_, sym, _∙_}
 use Rattle.definitions.specs.Rows.{rowsOf, rowAt, form, firstIei}

@@ -2,7 +2,7 @@
 -- The measure is what is left of the log.
 use Prim.Native.Nat.{_-_}
 use native.Mathlib.Omega.{arith}
-use mathlib.Core.Path.{ap, sym, _∙_}
+use mathlib.Core.Path.{ap, sym}
 use lib.ListN.{length}
 use Rattle.definitions.specs.Basic.{concat}
 use Rattle.definitions.proofs.LogSteps.{KeptAt, keptFrom, restOf, kept-over}

@@ -1,7 +1,6 @@
 -- `put_place` lends the rest of the output for the element of a present place.
 -- The element is what its row says, in its form.
 use native.Mathlib.Omega.{arith}
-use Prim.Native.Nat.{_≤_}
 use mathlib.Core.Path.{_≡_, ap, _∙_}
 use lib.ListN.{length, length-take, length-drop}
 use Rattle.definitions.specs.Rows.{rowsOf, rowAt, form}

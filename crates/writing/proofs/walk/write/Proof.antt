@@ -1,6 +1,5 @@
 -- `write` goes over the order log, and then puts the added and the kept elements that are left.
 -- What each leaves to write is the next one's.
-use Prim.Native.Nat.{_≤_}
 use native.Mathlib.Omega.{arith}
 use mathlib.Core.Path.{_≡_, ap, _∙_}
 use lib.ListN.{length}
