@@ -176,7 +176,7 @@ fn higher(a: usize, b: usize) -> usize
 }
 
 // By its row, an element from its first octet on: cut short, it takes the rest.
-fn fit_of(left: &[u8], row: Numbers) -> Fit
+pub fn fit_of(left: &[u8], row: Numbers) -> Fit
     ensures { λ r. ⌜ r ≡ fitOf (rowSaid row) (now (left .entry)) ⌝ }
 {
     match frame(form_of(row.code, row.size), left) {

@@ -5,30 +5,16 @@ use native.Mathlib.Omega.{arith}
 use mathlib.Core.Path.{_≡_, ap, sym, _∙_}
 use mathlib.Core.List.{List}
 use mathlib.Core.Bool.{Bool}
-use mathlib.Core.Option.{Option·getD}
 use lib.ListN.{length}
-use lib.Dec.{lit<}
-use Rattle.definitions.specs.Rows.{Row, rowsOf}
-use Rattle.definitions.specs.Elements.{Element as DefElement, Met, parted, stranger, known}
-use Rattle.definitions.proofs.Steps.{Stands, strange, placed}
-use Rattle.elements.specs.Steps.{elementOf}
-use Rattle.rows.specs.Indexed.{Indexed}
+use Rattle.definitions.specs.Rows.{Row}
+use Rattle.definitions.specs.Elements.{parted}
 use Rattle.reading.specs.Measures.{tallied, measuredFrom, noTally}
 use Rattle.elements.specs.Nexts.{startState}
 use Rattle.elements.specs.declared.element.State.{State}
 use Rattle.elements.specs.declared.element.Element.{Element}
 use Rattle.reading.specs.declared.measure.Tally.{Tally}
 use Rattle.elements.proofs.Nexts.{from, Nexts, from-start}
-use Rattle.reading.proofs.Tallies.{has-place, tally-before, tally-room, Room}
-
--- every place is an octet
-pub place-small : (table index : List ℕ) → Indexed table index → {start : ℕ} {option : Bool} {part : List ℕ} {s v : State} {e : Element} → Nexts (rowsOf table) start option part s e v → e .place < 256
-unfolding elementOf stranger known
-place-small table index i n = rw (ap (λ (x : Element). x .place) (n .is)) (of (n .stands))
-  where
-    of : {start : ℕ} {option : Bool} {m m′ : Met} {at : ℕ} {s : List ℕ} {d : DefElement} → Stands (rowsOf table) start option m at s d m′ → Option·getD (d .place) 255 < 256
-    of (strange p r) = lit< tt
-    of (placed k p) = let l : k < 128 = i .below _ k p in omega arith
+use Rattle.reading.proofs.Tallies.{tally-before, tally-room, Room}
 
 module _ (t : List Row) (start : ℕ) (option : Bool) (part : List ℕ) where
   pub record Counting (s : State) (c : Tally) : Type 0 where
@@ -36,14 +22,14 @@ module _ (t : List Row) (start : ℕ) (option : Bool) (part : List ℕ) where
     pub low : s .seen .low < 2 ^ 64
     pub kept : c .kept ≤ 2 * s .at
     pub order : c .order ≤ 2 * s .at
-    pub tells : measuredFrom t c (from t start option part s) ≡ measuredFrom t noTally (parted t start option part)
+    pub tells : measuredFrom c (from t start option part s) ≡ measuredFrom noTally (parted t start option part)
 
   pub begun : Counting startState noTally
-  begun = record { within = omega arith; low = omega arith; kept = omega arith; order = omega arith; tells = ap (measuredFrom t noTally) (from-start t start option part) }
+  begun = record { within = omega arith; low = omega arith; kept = omega arith; order = omega arith; tells = ap (measuredFrom noTally) (from-start t start option part) }
 
-  pub counted : (s v : State) (c : Tally) (e : Element) → Counting s c → Nexts t start option part s e v → Counting v (tallied t c e) × (s .at < v .at)
+  pub counted : (s v : State) (c : Tally) (e : Element) → Counting s c → Nexts t start option part s e v → Counting v (tallied c (e .len) (e .placed)) × (s .at < v .at)
   counted s v c e i n =
-      let r : Room t c e = tally-room t c e (n .some-octet) in
+      let r : Room c (e .len) (e .placed) = tally-room c (e .len) (e .placed) (n .some-octet) in
       let f = n .further in (
         record {
           within = omega (arith, n .within);
@@ -51,9 +37,9 @@ module _ (t : List Row) (start : ℕ) (option : Bool) (part : List ℕ) where
           kept = omega (arith, r .kept, i .kept);
           order = omega (arith, r .order, i .order, n .some-octet);
           tells =
-              ap (λ (x : Element). measuredFrom t (tallied t c x) (from t start option part v)) (n .is)
-              ∙ tally-before t c (n .element) (has-place (n .stands)) (from t start option part v)
-              ∙ ap (measuredFrom t c) (sym (n .parts))
+              ap (λ (x : Element). measuredFrom (tallied c (x .len) (x .placed)) (from t start option part v)) (n .is)
+              ∙ tally-before c (n .element) (from t start option part v)
+              ∙ ap (measuredFrom c) (sym (n .parts))
               ∙ i .tells;
         },
         omega (arith, n .some-octet),

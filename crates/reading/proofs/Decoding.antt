@@ -1,22 +1,25 @@
 -- Reading by what measuring and filling say: each answer of the code is the definition's, with the lent memory that it leaves.
 -- A refusal leaves all as it was; where reading is done, what was filled is the definition's.
-use Prim.Native.Nat.{ℕ, _+_, _*_, _≤_, _<_}
+use Prim.Native.Nat.{ℕ, suc, _+_, _*_, _≤_, _<_}
 use native.Mathlib.Omega.{arith}
 use mathlib.Core.Path.{_≡_, refl, ap, sym, _∙_}
-use mathlib.Core.List.{List, []}
-use mathlib.Core.Bool.{Bool, true, false}
-use mathlib.Core.Option.{none, some}
+use mathlib.Core.List.{List, [], _∷_, _++_}
+use mathlib.Core.Bool.{Bool, true, false, _&&_, false≢true}
+use mathlib.Core.Option.{Option, none, some}
 use lib.ListN.{length}
+use lib.Dec.{eqb, leb}
 use Rattle.definitions.specs.Basic.{pick, Answer, answer, over, mostOctets}
-use Rattle.definitions.specs.Rows.{Row, rowsOf, firstBad}
-use Rattle.definitions.specs.Elements.{Element, Parted, elements, cutShort, elementsOf, parted}
-use Rattle.definitions.specs.Logs.{keptOf, entriesOf, plainFrom, orderOf}
-use Rattle.definitions.specs.Reading.{Lent, Read, unread, readElements, reading, readingBy}
+use Rattle.definitions.specs.Rows.{Row, rowsOf, firstIei, firstBad}
+use Rattle.definitions.specs.Elements.{Verdict, accepted, unknown, malformed, repeated, outOfSequence, isAccepted, Element, ieiAt, Parted, elements, cutShort, elementsOf, parted}
+use Rattle.definitions.specs.Logs.{keptEntry, keptOf, entriesOf, plainFrom, orderOf}
+use Rattle.definitions.specs.Reading.{Lent, Read, unread, placeRows, readElements, reading, readingBy}
 use Rattle.definitions.specs.Tables.{tableOf, startOf}
+use Rattle.definitions.proofs.RowLaws.{both}
 use Rattle.definitions.proofs.Readings.{read-long, read-rows, read-cut, read-kept, read-order, read-done}
 use Rattle.rows.specs.Indexed.{Indexed}
 use Rattle.reading.specs.Measures.{measuredFrom, noTally}
-use Rattle.reading.specs.Fills.{notesOf, Ready, Written}
+use Rattle.reading.specs.Fills.{Ready, Written}
+use Rattle.reading.specs.Plains.{plainIn, Plainly}
 use Rattle.reading.specs.Decodes.{decodedAs, lentOf, Reads}
 use Rattle.reading.specs.declared.decode.Decoded.{Decoded}
 use Rattle.reading.specs.declared.decode.Room.{Room}
@@ -32,38 +35,63 @@ refused e q =
       order-is = ap (λ (x : Read). x .order) (sym e);
     }
 
--- what measuring says of a part
-pub record Needs (t : List Row) (p : Parted) (k all : ℕ) (plain : Bool) : Type 0 where
+-- what measuring says of a part of which the table does not say all
+pub record Needs (t : List Row) (p : Parted) (k o : ℕ) : Type 0 where
   pub decodes : p ≡ elements (elementsOf p)
   pub kept : k ≡ length (keptOf (elementsOf p))
-  pub plain-is : plain ≡ plainFrom t 0 (elementsOf p)
-  pub order : pick plain 0 all ≡ length (orderOf t (elementsOf p))
-  pub notes : notesOf plain (elementsOf p) ≡ orderOf t (elementsOf p)
+  pub order : entriesOf (elementsOf p) ≡ orderOf t (elementsOf p)
+  pub entries : o ≡ length (entriesOf (elementsOf p))
 
-pub needed : (t : List Row) (p : Parted) {k all : ℕ} {plain : Bool} → Measured.Needs k all plain ≡ measuredFrom t noTally p → Needs t p k all plain
+pub needed : (t : List Row) (p : Parted) → plainIn t 0 p ≡ false → {k o : ℕ} → Measured.Needs k o ≡ measuredFrom noTally p → Needs t p k o
 unfolding elementsOf orderOf
-needed t (cutShort a x n) e = let z : _≡_ {A = ℕ} 0 1 = cc in absurd (omega arith)
-needed t (elements es) {k = k} {all = all} {plain = plain} e =
+needed t (cutShort a x n) f e = let z : _≡_ {A = ℕ} 0 1 = cc in absurd (omega arith)
+needed t (elements es) f {k = k} {o = o} e =
     let a : k ≡ 0 + length (keptOf es) = cc in
-    let b : all ≡ 0 + length (entriesOf es) = cc in
-    let c : plain ≡ plainFrom t 0 es = cc in
-    record { decodes = refl; kept = omega arith; plain-is = c; order = rw c (lengths (plainFrom t 0 es) b); notes = rw c (same (plainFrom t 0 es)) }
-  where
-    lengths : (v : Bool) → all ≡ 0 + length (entriesOf es) → pick v 0 all ≡ length (pick v [] (entriesOf es))
-    lengths true b = refl
-    lengths false b = omega arith
+    let b : o ≡ 0 + length (entriesOf es) = cc in
+    record { decodes = refl; kept = omega arith; order = rw f; entries = omega arith }
 
-    same : (v : Bool) → notesOf v es ≡ pick v [] (entriesOf es)
-    same true = refl
-    same false = refl
-
-pub cut-is : (t : List Row) (p : Parted) {a x n : ℕ} → Measured.Cut a x n ≡ measuredFrom t noTally p → p ≡ cutShort a x n
-cut-is t (elements es) e = let z : _≡_ {A = ℕ} 0 1 = cc in absurd (omega arith)
-cut-is t (cutShort b y m) {a = a} {x = x} {n = n} e =
+pub cut-is : (p : Parted) {a x n : ℕ} → Measured.Cut a x n ≡ measuredFrom noTally p → p ≡ cutShort a x n
+cut-is (elements es) e = let z : _≡_ {A = ℕ} 0 1 = cc in absurd (omega arith)
+cut-is (cutShort b y m) {a = a} {x = x} {n = n} e =
     let i : a ≡ b = cc in
     let j : x ≡ y = cc in
     let l : n ≡ m = cc in
     rw (i, j, l)
+
+-- ---- a part of which the table says all
+
+plain-decodes : (t : List Row) (p : Parted) → plainIn t 0 p ≡ true → p ≡ elements (elementsOf p)
+unfolding elementsOf
+plain-decodes t (elements es) e = refl
+plain-decodes t (cutShort a x n) e = absurd (false≢true e)
+
+plain-order : (t : List Row) (p : Parted) → plainIn t 0 p ≡ true → orderOf t (elementsOf p) ≡ []
+unfolding elementsOf orderOf
+plain-order t (elements es) e = rw e
+plain-order t (cutShort a x n) e = absurd (false≢true e)
+
+kept-none : (t : List Row) (least : ℕ) (es : List Element) → plainFrom t least es ≡ true → keptOf es ≡ []
+unfolding plainFrom keptOf isAccepted
+kept-none t least [] e = refl
+kept-none t least (d ∷ es) e = by (d .place) (d .verdict) e (λ k. kept-none t k es)
+  where
+    by : (o : Option ℕ) (v : Verdict) → elim o [ none ↦ false | some k ↦ isAccepted v && (leb least k && (eqb (ieiAt d) (firstIei t k) && plainFrom t (suc k) es)) ] ≡ true
+        → ((k : ℕ) → plainFrom t k es ≡ true → keptOf es ≡ []) → pick (isAccepted v) (keptOf es) (keptEntry (d .octets) ++ keptOf es) ≡ []
+    by none v q f = absurd (false≢true q)
+    by (some k) accepted q f =
+        let a = both (leb least k) (eqb (ieiAt d) (firstIei t k) && plainFrom t (suc k) es) q in
+        f (suc k) (both (eqb (ieiAt d) (firstIei t k)) (plainFrom t (suc k) es) (a .1) .1)
+    by (some k) unknown q f = absurd (false≢true q)
+    by (some k) malformed q f = absurd (false≢true q)
+    by (some k) repeated q f = absurd (false≢true q)
+    by (some k) outOfSequence q f = absurd (false≢true q)
+
+plain-kept : (t : List Row) (p : Parted) → plainIn t 0 p ≡ true → keptOf (elementsOf p) ≡ []
+unfolding elementsOf
+plain-kept t (elements es) e = kept-none t 0 es e
+plain-kept t (cutShort a x n) e = absurd (false≢true e)
+
+-- ---- the answers
 
 module _ (table : List ℕ) (start : ℕ) (option : Bool) (part rows kept order : List ℕ) (passes : firstBad (rowsOf table) ≡ none) where
   abbrev t : List Row
@@ -86,12 +114,33 @@ module _ (table : List ℕ) (start : ℕ) (option : Bool) (part rows kept order 
     no-rows h = refused {l = l} (read-rows table start option part l passes short h) refl
 
     module _ (room : 3 * length t ≤ length rows) where
-      pub cut-short : {a x n : ℕ} → Measured.Cut a x n ≡ measuredFrom t noTally p → Reads r (Decoded.CutShort a x n) rows kept order
-      cut-short e = refused {l = l} (read-cut table start option part l passes short room (cut-is t p e)) refl
+      pub cut-short : {a x n : ℕ} → Measured.Cut a x n ≡ measuredFrom noTally p → Reads r (Decoded.CutShort a x n) rows kept order
+      cut-short e = refused {l = l} (read-cut table start option part l passes short room (cut-is p e)) refl
 
-      module _ (k all : ℕ) (plain : Bool) (m : Measured.Needs k all plain ≡ measuredFrom t noTally p) where
-        n : Needs t p k all plain
-        n = needed t p m
+      -- what is left where reading is done
+      answered : {k o : ℕ} {rows′ kept′ order′ : List ℕ} → let es : List Element = elementsOf p in p ≡ elements es → k ≡ length (keptOf es) → o ≡ length (orderOf t es) → k ≤ length kept → o ≤ length order
+          → rows′ ≡ over (placeRows t es) rows → kept′ ≡ over (keptOf es) kept → order′ ≡ over (orderOf t es) order → Reads r (Decoded.Done k o) rows′ kept′ order′
+      unfolding readElements
+      answered d k-is o-is k-room o-room rows-are kept-is order-is =
+          let e : r ≡ readElements t l (elementsOf p) = read-done table start option part l passes short room (elementsOf p) d (omega arith) (omega arith) in
+          record {
+            answers = rw (k-is, o-is) (ap (λ (x : Read). x .said) (sym e));
+            rows-are = rows-are ∙ ap (λ (x : Read). x .rows) (sym e);
+            kept-is = kept-is ∙ ap (λ (x : Read). x .kept) (sym e);
+            order-is = order-is ∙ ap (λ (x : Read). x .order) (sym e);
+          }
+
+      -- where the table says it all, nothing is needed of the logs
+      pub all-plain : {rows′ : List ℕ} → Plainly t p true rows rows′ → Reads r (Decoded.Done 0 0) rows′ kept order
+      unfolding over
+      all-plain w =
+          let k : keptOf (elementsOf p) ≡ [] = plain-kept t p (sym (w .is)) in
+          let o : orderOf t (elementsOf p) ≡ [] = plain-order t p (sym (w .is)) in
+          answered (plain-decodes t p (sym (w .is))) (rw k) (rw o) (omega arith) (omega arith) (w .rows-are) (rw k) (rw o)
+
+      module _ (other : plainIn t 0 p ≡ false) (k o : ℕ) (m : Measured.Needs k o ≡ measuredFrom noTally p) where
+        n : Needs t p k o
+        n = needed t p other m
 
         abbrev es : List Element
         es = elementsOf p
@@ -99,35 +148,25 @@ module _ (table : List ℕ) (start : ℕ) (option : Bool) (part rows kept order 
         pub no-kept : length kept < k → Reads r (Decoded.NoRoom Room.Kept) rows kept order
         no-kept h = refused {l = l} (read-kept table start option part l passes short room es (n .decodes) (omega (arith, n .kept))) refl
 
-        module _ (kept-room : k ≤ length kept) (o : ℕ) (o-is : o ≡ pick plain 0 all) where
+        module _ (kept-room : k ≤ length kept) where
           pub no-order : length order < o → Reads r (Decoded.NoRoom Room.Order) rows kept order
-          no-order h = refused {l = l} (read-order table start option part l passes short room es (n .decodes) (omega (arith, n .kept)) (omega (arith, n .order))) refl
+          no-order h = refused {l = l} (read-order table start option part l passes short room es (n .decodes) (omega (arith, n .kept)) (omega (arith, n .entries, ap length (n .order)))) refl
 
           module _ (order-room : o ≤ length order) where
-            pub ready : (ix : List ℕ) → Indexed table ix → Ready table ix start option plain part rows kept order
+            pub ready : (ix : List ℕ) → Indexed table ix → Ready table ix start option part rows kept order
             ready ix i =
                 record {
                   indexed = i;
                   passes = passes;
                   short = short;
                   decodes = n .decodes;
-                  plain-is = n .plain-is;
                   rows-room = room;
                   kept-room = omega (arith, n .kept);
-                  order-room = omega (arith, n .order, ap length (n .notes));
+                  order-room = omega (arith, n .entries);
                 }
 
-            pub done : {rows′ kept′ order′ : List ℕ} → Written t plain es rows kept order rows′ kept′ order′ → Reads r (Decoded.Done k o) rows′ kept′ order′
-            unfolding readElements
-            done w =
-                let e : r ≡ readElements t l es = read-done table start option part l passes short room es (n .decodes) (omega (arith, n .kept)) (omega (arith, n .order)) in
-                let a : o ≡ length (orderOf t es) = o-is ∙ n .order in
-                record {
-                  answers = rw (n .kept, a) (ap (λ (x : Read). x .said) (sym e));
-                  rows-are = w .rows-are ∙ ap (λ (x : Read). x .rows) (sym e);
-                  kept-is = w .kept-is ∙ ap (λ (x : Read). x .kept) (sym e);
-                  order-is = w .order-is ∙ ap (λ (s : List ℕ). over s order) (n .notes) ∙ ap (λ (x : Read). x .order) (sym e);
-                }
+            pub done : {rows′ kept′ order′ : List ℕ} → Written t es rows kept order rows′ kept′ order′ → Reads r (Decoded.Done k o) rows′ kept′ order′
+            done w = answered (n .decodes) (n .kept) (n .entries ∙ ap length (n .order)) kept-room order-room (w .rows-are) (w .kept-is) (w .order-is ∙ ap (λ (s : List ℕ). over s order) (n .order))
 
 -- ---- by table number
 

@@ -136,7 +136,7 @@ not-before {m = m} d j h = by (bit j (m .places)) refl
     by false q = refl
 
 -- what is met with an accepted element: its place, and what was met
-met-with : {t : List Row} {m m′ : Met} {e : Element} (c : Accepted t m m′ e) (j : ℕ) → bit j (m′ .places) ≡ (eqb j (c .place) || bit j (m .places))
+pub met-with : {t : List Row} {m m′ : Met} {e : Element} (c : Accepted t m m′ e) (j : ℕ) → bit j (m′ .places) ≡ (eqb j (c .place) || bit j (m .places))
 unfolding meet
 met-with {m = m} c j = ap (λ (x : Met). bit j (x .places)) (c .meets) ∙ bit-including j (c .place) (m .places)
 
@@ -159,7 +159,7 @@ rows-long g th k zero = refl
 rows-long g th k (suc n) = length-append (g k) (rowsFrom g (suc k) n) ∙ rw (th k, rows-long g th (suc k) n) (omega arith)
 
 -- nothing is met at first
-no-bit : (j : ℕ) → bit j 0 ≡ false
+pub no-bit : (j : ℕ) → bit j 0 ≡ false
 unfolding bit
 no-bit j = rw (zero-div (2 ^ j))
 
@@ -262,6 +262,10 @@ module _ (t : List Row) (passes : firstBad t ≡ none) (start : ℕ) (option : B
               each false q =
                   let i : j ≡ c .place → ⊥ = eqb-false j (c .place) q in
                   rw (updated-off g (c .place) (received t (c .place) e) j i, row-other t e es j (c .has) i)
+
+pub rows-length : (t : List Row) (es : List Element) → length (placeRows t es) ≡ 3 * length t
+unfolding placeRows
+rows-length t es = ap length (place-rows t es 0 (length t)) ∙ rows-long (placeRow t es) (row-three t es) 0 (length t)
 
 -- the whole part, from rows of zeros
 pub all-entered : (t : List Row) → firstBad t ≡ none → (start : ℕ) (option : Bool) (part : List ℕ) (es : List Element) → parted t start option part ≡ elements es

@@ -4,7 +4,7 @@ use Prim.Native.Nat.{ℕ, _+_, _*_, _≤_, _<_, _^_}
 use native.Mathlib.Omega.{arith}
 use mathlib.Core.Path.{_≡_, refl, ap, subst, sym, _∙_}
 use mathlib.Core.List.{List, [], _∷_, _++_}
-use mathlib.Core.Bool.{Bool, true, false}
+use mathlib.Core.Bool.{Bool, true}
 use mathlib.Core.Option.{Option, some, Option·getD}
 use lib.ListN.{length, take, drop, length-append}
 use Rattle.definitions.specs.Basic.{pick, over, overAt}
@@ -16,7 +16,7 @@ use Rattle.definitions.proofs.Lists.{over-next, over-none, length-overAt}
 use Rattle.order.specs.Order.{placedAs}
 use Rattle.order.specs.declared.Placed.{Placed}
 use Rattle.elements.specs.Steps.{placedFor, elementOf, metOf}
-use Rattle.reading.specs.Fills.{rowEntered, rowBy, RowFits, RowFitsBy, keptOfFound, entryBy, noteBy, enteredAll, notesOf, Ready, Filled}
+use Rattle.reading.specs.Fills.{rowEntered, rowBy, RowFits, RowFitsBy, keptOfFound, entryBy, noteBy, enteredAll, Ready, Filled}
 use Rattle.elements.specs.Nexts.{startState}
 use Rattle.elements.specs.declared.element.State.{State}
 use Rattle.elements.specs.declared.element.Element.{Element}
@@ -36,10 +36,9 @@ kept-cons e es = by (e .verdict)
     by repeated = refl
     by outOfSequence = refl
 
-notes-cons : (plain : Bool) (e : DefElement) (es : List DefElement) → notesOf plain (e ∷ es) ≡ noteBy plain (placedFor (ieiAt e) (e .verdict)) ++ notesOf plain es
+notes-cons : (e : DefElement) (es : List DefElement) → entriesOf (e ∷ es) ≡ noteBy (placedFor (ieiAt e) (e .verdict)) ++ entriesOf es
 unfolding entriesOf placedOf
-notes-cons true e es = refl
-notes-cons false e es = by (e .verdict) (e .at) (e .octets) (e .place)
+notes-cons e es = by (e .verdict) (e .at) (e .octets) (e .place)
   where
     by : (v : Verdict) (at : ℕ) (o : List ℕ) (p : Option ℕ)
         → let d : DefElement = record { at = at; octets = o; place = p; verdict = v } in orderEntry (placedOf d) ++ entriesOf es ≡ orderEntry (placedAs (placedFor (ieiAt d) v)) ++ entriesOf es
@@ -76,7 +75,7 @@ entered-long t e rows = by (e .placed)
 
 -- ---- the invariant
 
-module _ (table index : List ℕ) (start : ℕ) (option plain : Bool) (part rows₀ kept₀ order₀ : List ℕ) where
+module _ (table index : List ℕ) (start : ℕ) (option : Bool) (part rows₀ kept₀ order₀ : List ℕ) where
   abbrev t : List Row
   t = rowsOf table
 
@@ -92,12 +91,12 @@ module _ (table index : List ℕ) (start : ℕ) (option plain : Bool) (part rows
     pub kept-long : length kept ≡ length kept₀
     pub order-long : length order ≡ length order₀
     pub kept-room : k + length (keptOf left) ≤ length kept
-    pub order-room : o + length (notesOf plain left) ≤ length order
+    pub order-room : o + length (entriesOf left) ≤ length order
     pub rows-then : enteredAll t left rows ≡ enteredAll t whole rows₀
     pub kept-then : overAt k (keptOf left) kept ≡ over (keptOf whole) kept₀
-    pub order-then : overAt o (notesOf plain left) order ≡ over (notesOf plain whole) order₀
+    pub order-then : overAt o (entriesOf left) order ≡ over (entriesOf whole) order₀
 
-  module _ (ready : Ready table index start option plain part rows₀ kept₀ order₀) where
+  module _ (ready : Ready table index start option part rows₀ kept₀ order₀) where
     pub begun : Filling startState 0 0 rows₀ kept₀ order₀
     unfolding overAt
     begun =
@@ -154,16 +153,16 @@ module _ (table index : List ℕ) (start : ℕ) (option plain : Bool) (part rows
       kept-split : keptOf (i .left) ≡ keptOfFound e part ++ keptOf (split .rest)
       kept-split = ap keptOf (split .left-is) ∙ kept-cons d (split .rest) ∙ ap (λ (x : List ℕ). x ++ keptOf (split .rest)) (sym entry-is)
 
-      notes-split : notesOf plain (i .left) ≡ noteBy plain (e .placed) ++ notesOf plain (split .rest)
+      notes-split : entriesOf (i .left) ≡ noteBy (e .placed) ++ entriesOf (split .rest)
       notes-split =
-          ap (notesOf plain) (split .left-is) ∙ notes-cons plain d (split .rest)
-          ∙ ap (λ (x : Placed). noteBy plain x ++ notesOf plain (split .rest)) (sym placed-is)
+          ap entriesOf (split .left-is) ∙ notes-cons d (split .rest)
+          ∙ ap (λ (x : Placed). noteBy x ++ entriesOf (split .rest)) (sym placed-is)
 
       pub kept-fits : k + length (keptOfFound e part) + length (keptOf (split .rest)) ≤ length kept
       kept-fits = omega (arith, i .kept-room, ap length kept-split ∙ length-append (keptOfFound e part) (keptOf (split .rest)))
 
-      pub order-fits : o + length (noteBy plain (e .placed)) + length (notesOf plain (split .rest)) ≤ length order
-      order-fits = omega (arith, i .order-room, ap length notes-split ∙ length-append (noteBy plain (e .placed)) (notesOf plain (split .rest)))
+      pub order-fits : o + length (noteBy (e .placed)) + length (entriesOf (split .rest)) ≤ length order
+      order-fits = omega (arith, i .order-room, ap length notes-split ∙ length-append (noteBy (e .placed)) (entriesOf (split .rest)))
 
       starts-is : d .at ≡ s .at
       unfolding elementOf
@@ -191,7 +190,7 @@ module _ (table index : List ℕ) (start : ℕ) (option plain : Bool) (part rows
       entry = keptOfFound e part
 
       abbrev note : List ℕ
-      note = noteBy plain (e .placed)
+      note = noteBy (e .placed)
 
       pub filled : Filling v (k + length entry) (o + length note) (rowEntered t e rows) (overAt k entry kept) (overAt o note order)
       unfolding enteredAll
@@ -215,29 +214,25 @@ module _ (table index : List ℕ) (start : ℕ) (option plain : Bool) (part rows
                 ∙ ap (λ (x : List ℕ). overAt k x kept) (sym kept-split)
                 ∙ i .kept-then;
             order-then =
-                over-next o note (notesOf plain (split .rest)) order (omega (arith, order-fits))
+                over-next o note (entriesOf (split .rest)) order (omega (arith, order-fits))
                 ∙ ap (λ (x : List ℕ). overAt o x order) (sym notes-split)
                 ∙ i .order-then;
           }
 
     -- at the end nothing is left, and a part that decodes is not cut short
     pub ended : (s : State) (k o : ℕ) (rows kept order : List ℕ) → Filling s k o rows kept order → from t start option part s ≡ elements []
-        → Filled t plain whole rows₀ kept₀ order₀ rows kept order
+        → Filled t whole rows₀ kept₀ order₀ rows kept order
     unfolding enteredAll keptOf entriesOf
     ended s k o rows kept order i e =
         let l : i .left ≡ [] = nil (sym (i .reads) ∙ e) in
         record {
           rows-are = ap (λ (es : List DefElement). enteredAll t es rows) (sym l) ∙ i .rows-then;
           kept-is = sym (over-none k kept) ∙ ap (λ (es : List DefElement). overAt k (keptOf es) kept) (sym l) ∙ i .kept-then;
-          order-is = sym (over-none o order) ∙ ap (λ (x : List ℕ). overAt o x order) (sym (ap (notesOf plain) l ∙ none-noted plain)) ∙ i .order-then;
+          order-is = sym (over-none o order) ∙ ap (λ (x : List ℕ). overAt o x order) (sym (ap entriesOf l)) ∙ i .order-then;
         }
       where
         nil : {es : List DefElement} → elements es ≡ elements [] → es ≡ []
         nil q = cc
-
-        none-noted : (b : Bool) → notesOf b [] ≡ []
-        none-noted true = refl
-        none-noted false = refl
 
     pub never-cut : {s : State} {k o : ℕ} {rows kept order : List ℕ} {a x m : ℕ} → Filling s k o rows kept order → from t start option part s ≡ cutShort a x m → ⊥
     never-cut i e =
@@ -249,3 +244,17 @@ module _ (table index : List ℕ) (start : ℕ) (option plain : Bool) (part rows
   pub moved : {s : State} {k k′ o o′ : ℕ} {rows rows′ kept kept′ order order′ : List ℕ} → Filling s k o rows kept order → k′ ≡ k → o′ ≡ o → rows′ ≡ rows → kept′ ≡ kept → order′ ≡ order
       → Filling s k′ o′ rows′ kept′ order′
   moved i a b c d e = rw (a, b, c, d, e) i
+
+-- a part is ready for other rows of the same length
+pub still-ready : {table index : List ℕ} {start : ℕ} {option : Bool} {part rows rows′ kept order : List ℕ} → Ready table index start option part rows kept order
+    → length rows′ ≡ length rows → Ready table index start option part rows′ kept order
+still-ready r l =
+    record {
+      indexed = r .indexed;
+      passes = r .passes;
+      short = r .short;
+      decodes = r .decodes;
+      rows-room = omega (arith, r .rows-room);
+      kept-room = r .kept-room;
+      order-room = r .order-room;
+    }

@@ -3,7 +3,8 @@ pub mod Tallies
 pub mod Counting
 pub mod Accepted
 pub mod Filling
-pub mod Lining
 pub mod Entered
+pub mod Lining
+pub mod Copied
 pub mod Decoding
 pub mod SameAnswers

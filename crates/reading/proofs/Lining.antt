@@ -1,50 +1,51 @@
--- A part of which the table says all: every element has a place and is accepted, so that its row's form says how long it is.
--- Behind each position stands the state that reading would be in there; what is left to enter stays plain.
-use Prim.Native.Nat.{ℕ, suc, _+_, _*_, _-_, _≤_, _<_}
+-- A part of which the table says all, element by element: as long as every one came in table order, no place from the least on was
+-- met, so that the row and the IEI of the next alone say whether it is accepted in its turn, whatever the start number and the option.
+use Prim.Native.Nat.{ℕ, suc, _+_, _*_, _-_, _^_, _≤_, _<_, max}
 use native.Mathlib.Omega.{arith}
+use native.Mathlib.Numerals.{add-one}
 use mathlib.Core.Path.{_≡_, refl, ap, sym, _∙_}
 use mathlib.Core.List.{List, [], _∷_}
-use mathlib.Core.Bool.{Bool, true, false, _&&_, false≢true}
-use mathlib.Core.Option.{Option, none, some}
+use mathlib.Core.Bool.{Bool, true, false, _&&_, true≢false}
+use mathlib.Core.Option.{Option, none, some, Option·getD}
 use mathlib.Core.Logic.{inl, inr}
-use borrow.Author.Tests.{ne-eqb}
-use lib.ListN.{length, getD, drop, length-drop}
-use lib.Seq.{length-take-le}
+use borrow.Author.Tests.{ne-eqb, eq-eqb, le-ltb, le-leb, lt-leb}
+use lib.ListN.{length, getD, drop}
 use lib.Dec.{eqb, leb, ltb}
 use Rattle.definitions.specs.Basic.{pick, bit, overAt}
-use Rattle.definitions.specs.Rows.{Row, rowsOf, rowAt, form, ieiOf, firstIei}
-use Rattle.definitions.specs.Length.{whole, unknownLength, required}
-use Rattle.definitions.specs.Elements.{Verdict, accepted, unknown, malformed, repeated, outOfSequence, isAccepted, judged, taken, octetsOf, Element as DefElement, ieiAt, elements, elementsOf, parted, step}
-use Rattle.definitions.specs.Logs.{keptOf, plainFrom}
-use Rattle.definitions.proofs.Lists.{over-none}
-use Rattle.definitions.proofs.RowLaws.{both}
-use Rattle.definitions.proofs.Steps.{Frames, whole-frames}
+use Rattle.definitions.specs.Rows.{Row, rowsOf, rowAt, ieiOf, firstIei, firstBad}
+use Rattle.definitions.specs.Length.{unknownLength, required}
+use Rattle.definitions.specs.Elements.{Verdict, accepted, unknown, malformed, repeated, outOfSequence, isAccepted, judged, Element as DefElement, ieiAt, Parted, elements, cutShort, before, Met, meet, stranger, known, parted, step}
+use Rattle.definitions.specs.Logs.{plainFrom}
+use Rattle.definitions.proofs.Steps.{Stands, strange, placed}
 use Rattle.order.specs.declared.Placed.{Placed}
 use Rattle.rows.specs.Numbers.{numbersAt, rowSaid}
-use Rattle.seen.specs.Seen.{setOf}
-use Rattle.elements.specs.Steps.{placedFor, elementOf, stepOf, metOf, fitOf, cameKnown, cameStrange, stateAt, stateAfter, foundAt}
-use Rattle.reading.specs.Fills.{before, rowEntered, RowFits, keptOfFound, enteredAll, Ready}
-use Rattle.elements.specs.Nexts.{startState}
+use Rattle.rows.specs.Indexed.{Indexed}
+use Rattle.seen.specs.declared.Seen.{Seen}
+use Rattle.seen.specs.Seen.{setOf, seenOf, includingPlace}
+use Rattle.elements.specs.Steps.{placedFor, elementOf, stepOf, metOf, fitOf, cameKnown, cameStrange, stateAt, foundAt}
 use Rattle.elements.specs.declared.element.State.{State}
 use Rattle.elements.specs.declared.element.Element.{Element}
-use Rattle.elements.specs.declared.element.Step.{Step}
 use Rattle.elements.specs.declared.element.Came.{Came}
-use Rattle.reading.proofs.Accepted.{judged-accepted}
 use Rattle.elements.proofs.Came.{Ways, came-here, row-same}
-use Rattle.elements.proofs.Nexts.{from-start, Nexts, nexts, cuts, at-end}
-use Rattle.reading.proofs.Filling.{Filling, begun, split, filled, moved, row-fits, ended, never-cut}
+use Rattle.elements.proofs.Nexts.{from, from-start, Nexts, nexts, cuts, at-end}
+use Rattle.reading.specs.Fills.{before as headOf, rowEntered, enteredAll}
+use Rattle.reading.specs.Plains.{plainRows}
+use Rattle.reading.proofs.Accepted.{Accepted, accepted-one}
+use Rattle.reading.proofs.Entered.{met-with, no-bit}
 
--- ---- a plain element
+-- ---- the element in front
 
-accepted-is : (v : Verdict) → isAccepted v ≡ true → v ≡ accepted
-unfolding isAccepted
-accepted-is accepted e = refl
-accepted-is unknown e = absurd (false≢true e)
-accepted-is malformed e = absurd (false≢true e)
-accepted-is repeated e = absurd (false≢true e)
-accepted-is outOfSequence e = absurd (false≢true e)
+-- an accepted element has a place
+abbrev HasPlace : Option ℕ → Verdict → Type 0
+HasPlace none v = isAccepted v ≡ false
+HasPlace (some k) v = Unit
 
-known-accepted : (v : Verdict) (i : ℕ) {j : ℕ} → placedFor i v ≡ Placed.Known j → isAccepted v ≡ true
+has-place : {t : List Row} {start : ℕ} {option : Bool} {m m′ : Met} {at : ℕ} {s : List ℕ} {e : DefElement} → Stands t start option m at s e m′ → HasPlace (e .place) (e .verdict)
+unfolding isAccepted stranger known
+has-place (strange p r) = refl
+has-place (placed k p) = tt
+
+known-accepted : (v : Verdict) (i : ℕ) {j : ℕ} → Placed.Known j ≡ placedFor i v → isAccepted v ≡ true
 unfolding isAccepted
 known-accepted accepted i e = refl
 known-accepted unknown i e = let z : _≡_ {A = ℕ} 0 1 = cc in absurd (omega arith)
@@ -52,201 +53,223 @@ known-accepted malformed i e = let z : _≡_ {A = ℕ} 0 1 = cc in absurd (omega
 known-accepted repeated i e = let z : _≡_ {A = ℕ} 0 1 = cc in absurd (omega arith)
 known-accepted outOfSequence i e = let z : _≡_ {A = ℕ} 0 1 = cc in absurd (omega arith)
 
-plain-front : (t : List Row) (least : ℕ) (d : DefElement) (es : List DefElement) → plainFrom t least (d ∷ es) ≡ true
-    → (d .verdict ≡ accepted) × ((l : ℕ) × (plainFrom t l es ≡ true))
-unfolding plainFrom
-plain-front t least d es = by (d .place)
-  where
-    by : (o : Option ℕ) → elim o [ none ↦ false | some k ↦ isAccepted (d .verdict) && (leb least k && (eqb (ieiAt d) (firstIei t k) && plainFrom t (suc k) es)) ] ≡ true
-        → (d .verdict ≡ accepted) × ((l : ℕ) × (plainFrom t l es ≡ true))
-    by none e = absurd (false≢true e)
-    by (some k) e =
-        let a = both (isAccepted (d .verdict)) (leb least k && (eqb (ieiAt d) (firstIei t k) && plainFrom t (suc k) es)) e in
-        let b = both (leb least k) (eqb (ieiAt d) (firstIei t k) && plainFrom t (suc k) es) (a .1) in
-        let c = both (eqb (ieiAt d) (firstIei t k)) (plainFrom t (suc k) es) (b .1) in
-        (accepted-is (d .verdict) (a .0), (suc k, c .1))
+pick-both : {X : Type 0} (a b c : Bool) (x : Option X) → pick (a && (b && c)) x none ≡ pick (a && b) (pick c x none) none
+pick-both true true c x = refl
+pick-both true false c x = refl
+pick-both false b c x = refl
 
-same-left : {a b : List DefElement} → elements a ≡ elements b → a ≡ b
-same-left e = cc
+pick-none : {X : Type 0} (b : Bool) → _≡_ {A = Option X} none (pick b none none)
+pick-none true = refl
+pick-none false = refl
 
--- ---- the invariant
+module _ (t : List Row) (least : ℕ) (rows : List ℕ) where
+  -- by how the element in front came, and what is behind it
+  abbrev ahead : Element → Parted → Placed → Option (List ℕ)
+  ahead e p (Placed.Known iei) = pick (leb least (e .place) && eqb iei (firstIei t (e .place))) (plainRows t (suc (e .place)) p (rowEntered t e rows)) none
+  ahead e p Placed.Unknown = none
+  ahead e p (Placed.Ignored r) = none
 
-module _ (table index : List ℕ) (start : ℕ) (option : Bool) (part rows₀ : List ℕ) where
+  module _ (at : ℕ) (octets : List ℕ) where
+    abbrev made : Option ℕ → Verdict → DefElement
+    made o v = record { at = at; octets = octets; place = o; verdict = v }
+
+    aside : (o : Option ℕ) (v : Verdict) (p : Parted) → isAccepted v ≡ false → plainRows t least (before (made o v) p) rows ≡ none
+    unfolding before plainFrom
+    aside none v (elements es) h = refl
+    aside (some k) v (elements es) h = rw h
+    aside o v (cutShort a x n) h = refl
+
+    front : (o : Option ℕ) (v : Verdict) (p : Parted) → HasPlace o v → plainRows t least (before (made o v) p) rows ≡ ahead (elementOf (made o v)) p (placedFor (ieiAt (made o v)) v)
+    unfolding before plainFrom enteredAll elementOf isAccepted
+    front none accepted p h = let z : _≡_ {A = Bool} true false = h in absurd (true≢false z)
+    front (some k) accepted (elements es) h = pick-both (leb least k) (eqb (ieiAt (made (some k) accepted)) (firstIei t k)) (plainFrom t (suc k) es) _
+    front (some k) accepted (cutShort a x n) h = pick-none (leb least k && eqb (ieiAt (made (some k) accepted)) (firstIei t k))
+    front o unknown p h = aside o unknown p refl
+    front o malformed p h = aside o malformed p refl
+    front o repeated p h = aside o repeated p refl
+    front o outOfSequence p h = aside o outOfSequence p refl
+
+-- ---- where the pass is
+
+module _ (t : List Row) (start : ℕ) (option : Bool) (part : List ℕ) where
+  -- what the rest gives in the present rows
+  abbrev pub rest : State → ℕ → List ℕ → Option (List ℕ)
+  rest s least rows = plainRows t least (from t start option part s) rows
+
+  -- a state behind elements in table order: no place from the least on was met
+  pub record InLine (s : State) (least : ℕ) : Type 0 where
+    pub within : s .at ≤ length part
+    pub low : s .seen .low < 2 ^ 64
+    pub unmet : (j : ℕ) → least ≤ j → bit j (setOf (s .seen)) ≡ false
+    pub behind : s .highest ≤ least
+
+  -- the invariant: from a state at this position the rest gives what the whole part gives
+  pub record Lining (rows₀ : List ℕ) (at least : ℕ) (rows : List ℕ) : Type 0 where
+    pub seen : Seen
+    pub highest : ℕ
+    pub line : InLine (record { at = at; seen = seen; highest = highest }) least
+    pub tells : rest (record { at = at; seen = seen; highest = highest }) least rows ≡ plainRows t 0 (parted t start option part) rows₀
+
+  -- an element of n octets under the place k is in its turn: its row is there, and entering it leads on
+  pub record Enters (rows₀ : List ℕ) (at k : ℕ) (rows : List ℕ) (n : ℕ) : Type 0 where
+    pub some-octet : 1 ≤ n
+    pub ends : at + n ≤ length part
+    pub listed : k < length t
+    pub headed : headOf t k ≤ n
+    pub then : (rows′ : List ℕ) → rows′ ≡ overAt (3 * k) (1 ∷ (at + headOf t k) ∷ (n - headOf t k) ∷ []) rows → Lining rows₀ (at + n) (k + 1) rows′
+
+  pub begun : (rows₀ : List ℕ) → Lining rows₀ 0 0 rows₀
+  begun rows₀ =
+      record {
+        seen = record { low = 0; high = 0 };
+        highest = 0;
+        line = record { within = omega arith; low = omega arith; unmet = λ j h. no-bit j; behind = omega arith };
+        tells = ap (λ (p : Parted). plainRows t 0 p rows₀) (from-start t start option part);
+      }
+
+  pub ended : {rows₀ : List ℕ} {at least : ℕ} {rows : List ℕ} → Lining rows₀ at least rows → length part ≤ at → some rows ≡ plainRows t 0 (parted t start option part) rows₀
+  unfolding plainFrom enteredAll
+  ended {least = least} {rows = rows} l h = sym (ap (λ (p : Parted). plainRows t least p rows) (at-end t start option part _ (l .line .within) h)) ∙ l .tells
+
+-- ---- at a position
+
+module _ (table index : List ℕ) (i : Indexed table index) (passes : firstBad (rowsOf table) ≡ none) (start : ℕ) (option : Bool) (part rows₀ : List ℕ) where
   abbrev t : List Row
   t = rowsOf table
 
-  pub record Lining (at : ℕ) (rows : List ℕ) : Type 0 where
-    pub state : State
-    pub here : state .at ≡ at
-    pub filling : Filling table index start option true part rows₀ [] [] state 0 0 rows [] []
-    pub least : ℕ
-    pub plain : plainFrom t least (filling .left) ≡ true
+  abbrev whole : Option (List ℕ)
+  whole = plainRows t 0 (parted t start option part) rows₀
 
-  -- an element of n octets under the place k stands at a position: its row is there, and entering it leads on
-  pub record Enters (at k : ℕ) (rows : List ℕ) (n : ℕ) : Type 0 where
-    pub is : whole (form (rowAt t k)) (drop at part) ≡ some n
-    pub inside : 3 * k + 3 ≤ length rows
-    pub headed : before t k ≤ n
-    pub some-octet : 1 ≤ n
-    pub within : at + n ≤ length part
-    pub then : (rows′ : List ℕ) → rows′ ≡ overAt (3 * k) (1 ∷ (at + before t k) ∷ (n - before t k) ∷ []) rows → Lining (at + n) rows′
+  module _ {at least : ℕ} {rows : List ℕ} (l : Lining t start option part rows₀ at least rows) (inside : at < length part) (iei k : ℕ) (iei-is : iei ≡ ieiOf (getD part at 0)) (octet : iei < 256) (k-is : k ≡ getD index iei 0) where
+    abbrev s : State
+    s = record { at = at; seen = l .seen; highest = l .highest }
 
-  module _ (ready : Ready table index start option true part rows₀ [] []) where
-    pub lined : Lining 0 rows₀
-    lined =
-        let f = begun table index start option true part rows₀ [] [] ready in
-        let l = same-left (sym (f .reads) ∙ from-start t start option part ∙ ready .decodes) in
-        record { state = startState; here = refl; filling = f; least = 0; plain = ap (plainFrom t 0) l ∙ sym (ready .plain-is) }
+    abbrev left : List ℕ
+    left = drop at part
 
-    module _ {at : ℕ} {rows : List ℕ} (i : Lining at rows) (inside : i .state .at < length part) where
-      abbrev s : State
-      s = i .state
+    abbrev x : ℕ
+    x = getD part at 0
 
-      abbrev left : List ℕ
-      left = drop (s .at) part
+    here-is : (c : Came) → Ways table index i start option part s (l .line .low) inside x iei k c → foundAt s x iei k (length left) c ≡ stepOf (step t start option (metOf s) at left)
+    here-is = came-here table index i start option part s (l .line .low) inside x iei k refl iei-is octet k-is
 
-      -- the element in front was accepted, and what is behind it is plain
-      record Onward (e : Element) (v : State) : Type 0 where
-        iei : ℕ
-        placed : e .placed ≡ Placed.Known iei
-        fits : RowFits t e rows
-        then : (rows′ : List ℕ) → rows′ ≡ rowEntered t e rows → Lining (v .at) rows′
+    ahead-is : (e : Element) (v : State) → Nexts t start option part s e v → ahead t least rows e (from t start option part v) (e .placed) ≡ whole
+    unfolding elementOf
+    ahead-is e v n =
+        let d : DefElement = n .element in
+        ap (λ (y : Element). ahead t least rows y (from t start option part v) (y .placed)) (n .is)
+        ∙ sym (front t least rows (d .at) (d .octets) (d .place) (d .verdict) (from t start option part v) (has-place (n .stands)))
+        ∙ ap (λ (p : Parted). plainRows t least p rows) (sym (n .parts))
+        ∙ l .tells
 
-      placed-as : {e : Element} {v : State} (n : Nexts t start option part s e v) → n .element .verdict ≡ accepted → e .placed ≡ Placed.Known (ieiAt (n .element))
-      unfolding elementOf
-      placed-as n q = ap (λ (x : Element). x .placed) (n .is) ∙ rw q
+    -- without a place
+    pub none-strange : k ≡ 255 → none ≡ whole
+    none-strange e = by (unknownLength start left) (here-is (cameStrange x left (unknownLength start left)) (inl (e, refl)))
+      where
+        by-next : (n : ℕ) → foundAt s x iei k (length left) (Came.Is n Placed.Unknown) ≡ stepOf (step t start option (metOf s) at left) → none ≡ whole
+        by-next n q = ahead-is _ _ (nexts t start option part s (l .line .within) _ _ q)
 
-      none-kept : (e : Element) {j : ℕ} → e .placed ≡ Placed.Known j → keptOfFound e part ≡ []
-      unfolding keptOfFound
-      none-kept e q = rw q
+        by-cut : (b : Bool) → foundAt s x iei k (length left) (pick b Came.Cut (Came.Is (length left) Placed.Unknown)) ≡ stepOf (step t start option (metOf s) at left) → none ≡ whole
+        by-cut true q = ap (λ (p : Parted). plainRows t least p rows) (sym (cuts t start option part s (l .line .within) q)) ∙ l .tells
+        by-cut false q = by-next (length left) q
 
-      onward : {e : Element} {v : State} → Nexts t start option part s e v → Onward e v
-      onward {e = e} {v = v} n =
-          let p = split table index start option true part rows₀ [] [] ready s v e 0 0 rows [] [] (i .filling) n in
-          let f = plain-front t (i .least) (n .element) (p .rest) (ap (plainFrom t (i .least)) (sym (p .left-is)) ∙ i .plain) in
-          let a = placed-as n (f .0) in
-          record {
-            iei = ieiAt (n .element);
-            placed = a;
-            fits = row-fits table index start option true part rows₀ [] [] ready s v e 0 0 rows [] [] (i .filling) n;
-            then =
-                λ rows′ q.
-                let z : keptOfFound e part ≡ [] = none-kept e a in
-                let g : Filling table index start option true part rows₀ [] [] v 0 0 rows′ [] [] = moved table index start option true part rows₀ [] []
-                (filled table index start option true part rows₀ [] [] ready s v e 0 0 rows [] [] (i .filling) n) (rw z) refl q (rw z (sym (over-none 0 []))) (sym (over-none 0 [])) in
-                record { state = v; here = refl; filling = g; least = f .1 .0; plain = ap (plainFrom t (f .1 .0)) (same-left (sym (g .reads) ∙ p .reads)) ∙ f .1 .1 };
-          }
+        by : (o : Option ℕ) → foundAt s x iei k (length left) (cameStrange x left o) ≡ stepOf (step t start option (metOf s) at left) → none ≡ whole
+        by (some n) q = by-next n q
+        by none q = by-cut (required x) q
 
-      module _ (x iei k : ℕ) (x-is : x ≡ getD part (s .at) 0) (iei-is : iei ≡ ieiOf x) (octet : iei < 256) (k-is : k ≡ getD index iei 0) where
-        here-is : (c : Came) → Ways table index (ready .indexed) start option part s (i .filling .low) inside x iei k c
-            → foundAt s x iei k (length left) c ≡ stepOf (step t start option (metOf s) (s .at) left)
-        here-is = came-here table index (ready .indexed) start option part s (i .filling .low) inside x iei k x-is iei-is octet k-is
+    -- with one, by its row
+    module _ (has : k ≡ 255 → ⊥) where
+      abbrev row : Row
+      row = rowAt t k
 
-        next-of : (e : Element) (v : State) → Step.Next e v ≡ stepOf (step t start option (metOf s) (s .at) left) → Nexts t start option part s e v
-        next-of e v q = nexts t start option part s (i .filling .within) e v q
+      abbrev n : ℕ
+      n = fitOf row left .len
 
-        -- it has a place: an element without one is unknown, or cut short
-        has-place : k ≡ 255 → ⊥
-        has-place e = by (unknownLength start left) (here-is (cameStrange x left (unknownLength start left)) (inl (e, refl)))
-          where
-            strange : (n : ℕ) → Step.Next (record { start = s .at; len = n; iei = iei; place = k; placed = Placed.Unknown }) (stateAfter s k n) ≡ stepOf (step t start option (metOf s) (s .at) left) → ⊥
-            strange n q =
-                let o = onward (next-of _ _ q) in
-                let p = o .placed in
-                let z : _≡_ {A = ℕ} 0 1 = cc in
-                omega arith
+      abbrev element : Verdict → Element
+      element v = record { start = at; len = n; iei = iei; place = k; placed = placedFor iei v }
 
-            by-cut : (b : Bool) → foundAt s x iei k (length left) (pick b Came.Cut (Came.Is (length left) Placed.Unknown)) ≡ stepOf (step t start option (metOf s) (s .at) left) → ⊥
-            by-cut true q = never-cut table index start option true part rows₀ [] [] ready (i .filling) (cuts t start option part s (i .filling .within) q)
-            by-cut false q = strange (length left) q
+      abbrev then : State
+      then = record { at = at + n; seen = seenOf (includingPlace k (setOf (l .seen))); highest = max k (l .highest) }
 
-            by : (o : Option ℕ) → foundAt s x iei k (length left) (cameStrange x left o) ≡ stepOf (step t start option (metOf s) (s .at) left) → ⊥
-            by (some n) q = strange n q
-            by none q = by-cut (required x) q
+      abbrev verdict : Verdict
+      verdict = judged option (bit k (setOf (l .seen))) (ltb k (l .highest)) (fitOf row left .taken)
 
-        -- what its row says of it
-        abbrev row : Row
-        row = rowAt t k
+      next-is : Nexts t start option part s (element verdict) then
+      unfolding stateAt
+      next-is =
+          nexts t start option part s (l .line .within) _ _
+          (rw (row-same table (i .whole) k left, ne-eqb k 255 has) at
+          (here-is (cameKnown (rowSaid (numbersAt table k)) iei option (bit k (setOf (l .seen))) (ltb k (l .highest)) left) (inr (has, refl))))
 
-        abbrev verdict : Verdict
-        verdict = judged option (bit k (setOf (s .seen))) (ltb k (s .highest)) (fitOf row left .taken)
+      by-verdict : ((v : Verdict) → ahead t least rows (element v) (from t start option part then) (placedFor iei v) ≡ none) → none ≡ whole
+      by-verdict f = sym (f verdict) ∙ ahead-is _ _ next-is
 
-        abbrev element : Element
-        element = record { start = s .at; len = fitOf row left .len; iei = iei; place = k; placed = placedFor iei verdict }
+      pub none-below : k < least → none ≡ whole
+      none-below h = by-verdict (by (lt-leb least k h))
+        where
+          by : leb least k ≡ false → (v : Verdict) → ahead t least rows (element v) (from t start option part then) (placedFor iei v) ≡ none
+          by e accepted = rw e
+          by e unknown = refl
+          by e malformed = refl
+          by e repeated = refl
+          by e outOfSequence = refl
 
-        known : Onward element (stateAfter s k (fitOf row left .len))
-        known =
-            onward (next-of _ _
-            (rw (row-same table (ready .indexed .whole) k left) at
-            (here-is (cameKnown (rowSaid (numbersAt table k)) iei option (bit k (setOf (s .seen))) (ltb k (s .highest)) left) (inr (has-place, refl)))))
+      pub none-other : (iei ≡ firstIei t k → ⊥) → none ≡ whole
+      none-other h = by-verdict by
+        where
+          no : (b : Bool) (y : Option (List ℕ)) → pick (b && eqb iei (firstIei t k)) y none ≡ none
+          no true y = rw (ne-eqb iei (firstIei t k) h)
+          no false y = refl
 
-        taken-is : fitOf row left .taken ≡ true
-        taken-is = judged-accepted option (bit k (setOf (s .seen))) (ltb k (s .highest)) (fitOf row left .taken) (known-accepted verdict iei (known .placed)) .1
+          by : (v : Verdict) → ahead t least rows (element v) (from t start option part then) (placedFor iei v) ≡ none
+          by accepted = no (leb least k) _
+          by unknown = refl
+          by malformed = refl
+          by repeated = refl
+          by outOfSequence = refl
 
-        -- so it is complete
-        takes : (n : ℕ) × Enters (s .at) k rows n
-        unfolding fitOf taken octetsOf rowEntered stateAt
-        takes = by (whole (form row) left) refl taken-is
-          where
-            by : (o : Option ℕ) → whole (form row) left ≡ o → taken row (whole (form row) left) left ≡ true → (n : ℕ) × Enters (s .at) k rows n
-            by none e q = let z : false ≡ true = rw e at q in absurd (false≢true z)
-            by (some n) e q =
-                let f : Frames (form row) left (some n) = rw e at (whole-frames (form row) left) in
-                let l : fitOf row left .len ≡ n = rw (e, length-take-le n left (f .1)) in
-                let b : (3 * k + 3 ≤ length rows) × (before t k ≤ fitOf row left .len) × (s .at + fitOf row left .len < 65536) = rw (known .placed) at (known .fits) in (
-                  n,
+      module _ (h : least ≤ k) where
+        verdict-is : verdict ≡ pick (fitOf row left .taken) accepted malformed
+        unfolding judged
+        verdict-is = rw (l .line .unmet k h, le-ltb k (l .highest) (omega (arith, l .line .behind)))
+
+        pub none-taken : fitOf row left .taken ≡ false → none ≡ whole
+        none-taken q =
+            let bad : verdict ≡ malformed = verdict-is ∙ rw q in
+            ap (λ (v : Verdict). ahead t least rows (element v) (from t start option part then) (placedFor iei v)) (sym bad) ∙ ahead-is _ _ next-is
+
+        pub enters : iei ≡ firstIei t k → fitOf row left .taken ≡ true → Enters t start option part rows₀ at k rows n
+        unfolding elementOf meet rowEntered
+        enters f q =
+            let good : verdict ≡ accepted = verdict-is ∙ rw q in
+            let d : DefElement = next-is .element in
+            let a : Accepted t (metOf s) (metOf then) d =
+            accepted-one (next-is .stands) passes (known-accepted (d .verdict) (ieiAt d) (ap (placedFor iei) (sym good) ∙ ap (λ (y : Element). y .placed) (next-is .is))) in
+            let p : k ≡ a .place = ap (λ (y : Element). y .place) (next-is .is) ∙ ap (λ (o : Option ℕ). Option·getD o 255) (a .has) in
+            let c : InLine t start option part then (k + 1) =
+            record {
+              within = next-is .within;
+              low = next-is .low;
+              unmet = λ j g. met-with a j ∙ rw (ne-eqb j (a .place) (λ e. omega (arith, e, p, g))) (l .line .unmet j (omega arith));
+              behind = omega (arith, l .line .behind);
+            } in
+            let r : ahead t least rows (element accepted) (from t start option part then) (placedFor iei accepted) ≡ rest t start option part then (k + 1) (overAt (3 * k) (1 ∷ (at + headOf t k) ∷ (n - headOf t k) ∷ []) rows) =
+            rw (le-leb least k h, eq-eqb iei (firstIei t k) f, add-one k) in
+            record {
+              some-octet = next-is .some-octet;
+              ends = next-is .within;
+              listed = omega (arith, a .inside, p);
+              headed = omega (arith, a .headed, next-is .long, ap (headOf t) p);
+              then =
+                  λ rows′ e.
                   record {
-                    is = e;
-                    inside = b .0;
-                    headed = omega (arith, b .1, l);
-                    some-octet = f .2;
-                    within = omega (arith, f .1, length-drop (s .at) part);
-                    then = λ rows′ q. rw (ne-eqb k 255 has-place, l) at (known .then rows′ (q ∙ rw (known .placed, l)));
-                  },
-                )
-
-    pub enters : {at : ℕ} {rows : List ℕ} (i : Lining at rows) → at < length part → (iei k : ℕ) → iei ≡ ieiOf (getD part at 0) → iei < 256 → k ≡ getD index iei 0 → (n : ℕ) × Enters at k rows n
-    enters {at = at} i h iei k e o q = rw (i .here) at (takes i (omega (arith, i .here)) (getD part at 0) iei k (ap (λ (m : ℕ). getD part m 0) (sym (i .here))) e o q)
-
-    -- at the end nothing is left
-    pub all-lined : {at : ℕ} {rows : List ℕ} → Lining at rows → length part ≤ at → rows ≡ enteredAll t (elementsOf (parted t start option part)) rows₀
-    all-lined i h =
-        let f = i .filling in
-        ended table index start option true part rows₀ [] [] ready (i .state) 0 0 _ [] [] f (at-end t start option part (i .state) (f .within) (omega (arith, i .here))) .rows-are
-
--- ---- what a plain part needs
-
--- nothing of the kept log
-pub plain-kept : (t : List Row) (least : ℕ) (es : List DefElement) → plainFrom t least es ≡ true → keptOf es ≡ []
-unfolding keptOf isAccepted
-plain-kept t least [] e = refl
-plain-kept t least (d ∷ es) e = let f = plain-front t least d es e in rw (f .0) (plain-kept t (f .1 .0) es (f .1 .1))
-
--- so it is ready without logs, also in other rows of the same length
-pub plain-ready : {table index : List ℕ} {start : ℕ} {option : Bool} {part rows rows′ kept order : List ℕ} → Ready table index start option true part rows kept order
-    → length rows′ ≡ length rows → Ready table index start option true part rows′ [] []
-plain-ready r l =
-    record {
-      indexed = r .indexed;
-      passes = r .passes;
-      short = r .short;
-      decodes = r .decodes;
-      plain-is = r .plain-is;
-      rows-room = omega (arith, r .rows-room);
-      kept-room = omega (arith, ap length (plain-kept _ 0 _ (sym (r .plain-is))));
-      order-room = omega arith;
-    }
-
-pub still-ready : {table index : List ℕ} {start : ℕ} {option plain : Bool} {part rows rows′ kept order : List ℕ} → Ready table index start option plain part rows kept order
-    → length rows′ ≡ length rows → Ready table index start option plain part rows′ kept order
-still-ready r l =
-    record {
-      indexed = r .indexed;
-      passes = r .passes;
-      short = r .short;
-      decodes = r .decodes;
-      plain-is = r .plain-is;
-      rows-room = omega (arith, r .rows-room);
-      kept-room = r .kept-room;
-      order-room = r .order-room;
-    }
+                    seen = then .seen;
+                    highest = then .highest;
+                    line = c;
+                    tells =
+                        rw e
+                        (sym r
+                        ∙ ap (λ (v : Verdict). ahead t least rows (element v) (from t start option part then) (placedFor iei v)) (sym good)
+                        ∙ ahead-is _ _ next-is);
+                  };
+            }

@@ -1,7 +1,7 @@
 -- What an element found leaves in the lent rows and logs, by how it came.
 use Prim.Native.Nat.{ℕ, _+_, _*_, _-_, _≤_, _<_}
 use mathlib.Core.List.{List, [], _∷_}
-use mathlib.Core.Bool.{Bool, true, false}
+use mathlib.Core.Bool.{Bool}
 use lib.ListN.{length, take, drop}
 use Rattle.definitions.specs.Basic.{over, overAt}
 use mathlib.Core.Path.{_≡_}
@@ -9,7 +9,7 @@ use mathlib.Core.Option.{none}
 use Rattle.definitions.specs.Rows.{Row, rowsOf, rowAt, form, firstBad}
 use Rattle.definitions.specs.Elements.{Element as DefElement, elements, elementsOf, parted}
 use Rattle.definitions.specs.Length.{header}
-use Rattle.definitions.specs.Logs.{keptEntry, orderEntry, keptOf, entriesOf, plainFrom}
+use Rattle.definitions.specs.Logs.{keptEntry, orderEntry, keptOf, entriesOf}
 use Rattle.definitions.specs.Reading.{placeRows}
 use Rattle.order.specs.Order.{placedAs}
 use Rattle.order.specs.declared.Placed.{Placed}
@@ -53,10 +53,9 @@ keptOfFound e octets = entryBy (take (e .len) (drop (e .start) octets)) (e .plac
 
 -- ---- the order log
 
--- the entry of an element: none where the table says it all
-abbrev pub noteBy : Bool → Placed → List ℕ
-noteBy true p = []
-noteBy false p = orderEntry (placedAs p)
+-- the entry of an element
+abbrev pub noteBy : Placed → List ℕ
+noteBy p = orderEntry (placedAs p)
 
 -- ---- a whole part
 
@@ -65,30 +64,24 @@ unfoldable pub enteredAll : List Row → List DefElement → List ℕ → List �
 enteredAll t [] rows = rows
 enteredAll t (e ∷ es) rows = enteredAll t es (rowEntered t (elementOf e) rows)
 
--- the order log, unless the table says it all
-abbrev pub notesOf : Bool → List DefElement → List ℕ
-notesOf true es = []
-notesOf false es = entriesOf es
-
--- a part that decodes, under a table that passes and its index, with room for what it needs; plain where the table says it all
-pub record Ready (table index : List ℕ) (start : ℕ) (option plain : Bool) (part rows kept order : List ℕ) : Type 0 where
+-- a part that decodes, under a table that passes and its index, with room for its rows and every entry
+pub record Ready (table index : List ℕ) (start : ℕ) (option : Bool) (part rows kept order : List ℕ) : Type 0 where
   pub indexed : Indexed table index
   pub passes : firstBad (rowsOf table) ≡ none
   pub short : length part ≤ 65535
   pub decodes : parted (rowsOf table) start option part ≡ elements (elementsOf (parted (rowsOf table) start option part))
-  pub plain-is : plain ≡ plainFrom (rowsOf table) 0 (elementsOf (parted (rowsOf table) start option part))
   pub rows-room : 3 * length (rowsOf table) ≤ length rows
   pub kept-room : length (keptOf (elementsOf (parted (rowsOf table) start option part))) ≤ length kept
-  pub order-room : length (notesOf plain (elementsOf (parted (rowsOf table) start option part))) ≤ length order
+  pub order-room : length (entriesOf (elementsOf (parted (rowsOf table) start option part))) ≤ length order
 
 -- what filling leaves
-pub record Filled (t : List Row) (plain : Bool) (es : List DefElement) (rows kept order rows′ kept′ order′ : List ℕ) : Type 0 where
+pub record Filled (t : List Row) (es : List DefElement) (rows kept order rows′ kept′ order′ : List ℕ) : Type 0 where
   pub rows-are : rows′ ≡ enteredAll t es rows
   pub kept-is : kept′ ≡ over (keptOf es) kept
-  pub order-is : order′ ≡ over (notesOf plain es) order
+  pub order-is : order′ ≡ over (entriesOf es) order
 
 -- what is written of a part: the rows of its places, and both logs
-pub record Written (t : List Row) (plain : Bool) (es : List DefElement) (rows kept order rows′ kept′ order′ : List ℕ) : Type 0 where
+pub record Written (t : List Row) (es : List DefElement) (rows kept order rows′ kept′ order′ : List ℕ) : Type 0 where
   pub rows-are : rows′ ≡ over (placeRows t es) rows
   pub kept-is : kept′ ≡ over (keptOf es) kept
-  pub order-is : order′ ≡ over (notesOf plain es) order
+  pub order-is : order′ ≡ over (entriesOf es) order

@@ -1,4 +1,5 @@
 -- What the answers of this crate are by the definitions.
 pub mod Measures
 pub mod Fills
+pub mod Plains
 pub mod Decodes

@@ -2,6 +2,7 @@
 use crate::fill::fill;
 use crate::measure::Measured;
 use crate::measure::measure;
+use crate::plain::plain;
 use octets::MOST_OCTETS;
 use real::INDEX_P;
 use real::INDEX_PDU_SESSION_ESTABLISHMENT_ACCEPT;
@@ -22,12 +23,14 @@ use rows::check::check_and_index;
 use rows::columns::places;
 ghost use mathlib.Core.Path.{_≡_};
 ghost use mathlib.Core.Option.{none};
-ghost use Prim.Native.Nat.{_*_};
+ghost use mathlib.Core.Bool.{false};
+ghost use lib.ListN.{length};
 ghost use Rattle.definitions.specs.Rows.{rowsOf, firstBad};
-ghost use Rattle.definitions.specs.Basic.{pick};
+ghost use Rattle.definitions.specs.Elements.{parted};
 ghost use Rattle.definitions.specs.Reading.{reading, readingBy};
 ghost use Rattle.real.specs.Real.{realOf};
 ghost use Rattle.rows.specs.Indexed.{Indexed};
+ghost use Rattle.reading.specs.Plains.{Fits, plainIn};
 ghost use Rattle.reading.specs.Decodes.{lentOf, Reads};
 
 // What a refusal for want of room names.
@@ -64,43 +67,43 @@ fn decode_by_index(
     if octets.len() > MOST_OCTETS {
         return Decoded::TooLong;
     }
-    if rows.len() < 3 * places(table) {
+    let n = 3 * places(table);
+    if rows.len() < n {
         return Decoded::NoRoom(Room::Rows);
     }
+    if plain(octets, table, index, n, rows) {
+        return Decoded::Done(0, 0);
+    }
+    decode_elements(octets, table, index, tlve_start, option, rows, kept, order)
+}
+
+// A part of which the table does not say all: what it needs of the logs, then what is written.
+fn decode_elements(
+    octets: &[u8],
+    table: &[u32],
+    index: &[u8; 256],
+    tlve_start: u8,
+    option: bool,
+    rows: &mut [u32],
+    kept: &mut [u8],
+    order: &mut [u8],
+) -> Decoded
+    requires { ⌜ Fits (now table) (now index) (now octets) (length (now rows)) × (plainIn (rowsOf (now table)) 0 (parted (rowsOf (now table)) «tlve_start» option (now octets)) ≡ false) ⌝ }
+    ensures { λ r. ⌜ Reads (reading (now (table .entry)) «tlve_start» option (now (octets .entry)) (lentOf (now (rows .entry)) (now (kept .entry)) (now (order .entry)))) r (now (rows .exit)) (now (kept .exit)) (now (order .exit)) ⌝ }
+{
     match measure(octets, table, index, tlve_start, option) {
         Measured::Cut(start, x, left) => Decoded::CutShort(start, x, left),
-        Measured::Needs(k, all, plain) => {
-            let o = entries_needed(all, plain);
+        Measured::Needs(k, o) => {
             if kept.len() < k {
                 return Decoded::NoRoom(Room::Kept);
             }
             if order.len() < o {
                 return Decoded::NoRoom(Room::Order);
             }
-            fill(
-                octets,
-                table,
-                index,
-                tlve_start,
-                option,
-                plain,
-                rows,
-                kept,
-                order,
-            );
+            fill(octets, table, index, tlve_start, option, rows, kept, order);
             Decoded::Done(k, o)
         }
     }
-}
-
-// The octets of the order log: none where the table says it all.
-fn entries_needed(all: usize, plain: bool) -> usize
-    ensures { λ r. ⌜ r ≡ pick plain 0 all ⌝ }
-{
-    if plain {
-        return 0;
-    }
-    all
 }
 
 // By a lent table: the start number of the long form, and whether elements out of sequence are taken.

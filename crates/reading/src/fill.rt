@@ -7,11 +7,9 @@ use elements::element::after;
 use elements::element::came_known;
 use elements::element::came_unknown;
 use elements::element::entry_of;
-use elements::element::frame;
 use elements::element::header;
 use elements::element::iei_of;
 use kept::put_raw;
-use length::Length;
 use order::Placed;
 use order::entry_len;
 use order::put_placed;
@@ -23,7 +21,6 @@ use seen::seen_has;
 ghost use mathlib.Core.Path.{_≡_};
 ghost use Prim.Native.Nat.{_+_, _*_, _≤_, _<_};
 ghost use lib.ListN.{length, replicate};
-ghost use mathlib.Core.Bool.{true, false};
 ghost use mathlib.Core.List.{[], _∷_};
 ghost use Rattle.definitions.specs.Basic.{over, overAt};
 ghost use Rattle.definitions.specs.Rows.{rowsOf};
@@ -31,7 +28,7 @@ ghost use Rattle.definitions.specs.Logs.{keptEntry, orderEntry};
 ghost use Rattle.definitions.specs.Elements.{elementsOf, parted};
 ghost use Rattle.order.specs.Order.{placedAs};
 ghost use Rattle.rows.specs.Numbers.{Whole};
-ghost use Rattle.reading.specs.Fills.{RowFits, rowEntered, keptOfFound, enteredAll, Ready, Filled, Written};
+ghost use Rattle.reading.specs.Fills.{RowFits, rowEntered, keptOfFound, Ready, Filled, Written};
 
 // No number in the first n.
 fn clear_rows(rows: &mut [u32], n: usize)
@@ -46,7 +43,7 @@ fn clear_rows(rows: &mut [u32], n: usize)
 }
 
 // Three numbers of a row from a position on.
-fn set_row(rows: &mut [u32], at: usize, start: u32, len: u32)
+pub(crate) fn set_row(rows: &mut [u32], at: usize, start: u32, len: u32)
     requires { ⌜ at + 3 ≤ length (now rows) ⌝ }
     ensures { λ r. ⌜ now (rows .exit) ≡ overAt at (1 ∷ start ∷ len ∷ []) (now (rows .entry)) ⌝ }
 {
@@ -107,7 +104,7 @@ fn note(placed: Placed, order: &mut [u8], used: usize) -> usize
     used + entry_len(placed)
 }
 
-// Every element of a part that decodes and of which the table does not say all, into rows and logs that have room.
+// Every element of a part that decodes, into rows and logs that have room, each with an entry.
 fn fill_elements(
     octets: &[u8],
     table: &[u32],
@@ -118,8 +115,8 @@ fn fill_elements(
     kept: &mut [u8],
     order: &mut [u8],
 )
-    requires { ⌜ Ready (now table) (now index) «tlve_start» option false (now octets) (now rows) (now kept) (now order) ⌝ }
-    ensures { λ r. ⌜ Filled (rowsOf (now (table .entry))) false (elementsOf (parted (rowsOf (now (table .entry))) «tlve_start» option (now (octets .entry)))) (now (rows .entry)) (now (kept .entry)) (now (order .entry)) (now (rows .exit)) (now (kept .exit)) (now (order .exit)) ⌝ }
+    requires { ⌜ Ready (now table) (now index) «tlve_start» option (now octets) (now rows) (now kept) (now order) ⌝ }
+    ensures { λ r. ⌜ Filled (rowsOf (now (table .entry))) (elementsOf (parted (rowsOf (now (table .entry))) «tlve_start» option (now (octets .entry)))) (now (rows .entry)) (now (kept .entry)) (now (order .entry)) (now (rows .exit)) (now (kept .exit)) (now (order .exit)) ⌝ }
 {
     let mut state = State {
         at: 0,
@@ -167,37 +164,6 @@ fn fill_elements(
     }
 }
 
-// Every element of a part of which the table says all, into the rows: each has a place and is accepted, so that its form alone
-// says how long it is. The start number and the option are those by which the part was measured.
-fn fill_plain(
-    octets: &[u8],
-    table: &[u32],
-    index: &[u8; 256],
-    tlve_start: u8,
-    option: bool,
-    rows: &mut [u32],
-)
-    requires { ⌜ Ready (now table) (now index) «tlve_start» option true (now octets) (now rows) [] [] ⌝ }
-    ensures { λ r. ⌜ now (rows .exit) ≡ enteredAll (rowsOf (now (table .entry))) (elementsOf (parted (rowsOf (now (table .entry))) «tlve_start» option (now (octets .entry)))) (now (rows .entry)) ⌝ }
-{
-    let mut at = 0;
-    while at < octets.len() {
-        let place = entry_of(index, iei_of(octets[at]));
-        let row = numbers_at(table, place);
-        let form = form_of(row.code, row.size);
-        match frame(form, &octets[at..]) {
-            Length::Octets(n) => {
-                let h = header(form);
-                set_row(rows, 3 * place, (at + h) as u32, (n - h) as u32);
-                at += n;
-            }
-            Length::CutShort => {
-                return;
-            }
-        }
-    }
-}
-
 // All that reading writes: the rows of every place, and both logs.
 pub(crate) fn fill(
     octets: &[u8],
@@ -205,18 +171,13 @@ pub(crate) fn fill(
     index: &[u8; 256],
     tlve_start: u8,
     option: bool,
-    plain: bool,
     rows: &mut [u32],
     kept: &mut [u8],
     order: &mut [u8],
 )
-    requires { ⌜ Ready (now table) (now index) «tlve_start» option plain (now octets) (now rows) (now kept) (now order) ⌝ }
-    ensures { λ r. ⌜ Written (rowsOf (now (table .entry))) plain (elementsOf (parted (rowsOf (now (table .entry))) «tlve_start» option (now (octets .entry)))) (now (rows .entry)) (now (kept .entry)) (now (order .entry)) (now (rows .exit)) (now (kept .exit)) (now (order .exit)) ⌝ }
+    requires { ⌜ Ready (now table) (now index) «tlve_start» option (now octets) (now rows) (now kept) (now order) ⌝ }
+    ensures { λ r. ⌜ Written (rowsOf (now (table .entry))) (elementsOf (parted (rowsOf (now (table .entry))) «tlve_start» option (now (octets .entry)))) (now (rows .entry)) (now (kept .entry)) (now (order .entry)) (now (rows .exit)) (now (kept .exit)) (now (order .exit)) ⌝ }
 {
     clear_rows(rows, 3 * places(table));
-    if plain {
-        fill_plain(octets, table, index, tlve_start, option, rows);
-        return;
-    }
     fill_elements(octets, table, index, tlve_start, option, rows, kept, order);
 }

@@ -2,3 +2,4 @@
 pub mod decode;
 mod fill;
 mod measure;
+mod plain;

@@ -1,6 +1,5 @@
 // How much reading a part needs of the lent logs, before anything is written.
 use elements::element::Came;
-use elements::element::Element;
 use elements::element::NO_PLACE;
 use elements::element::State;
 use elements::element::after;
@@ -18,54 +17,30 @@ ghost use Prim.Native.Nat.{_+_, _≤_, _<_, _^_};
 ghost use lib.ListN.{length};
 ghost use Rattle.definitions.specs.Rows.{rowsOf};
 ghost use Rattle.definitions.specs.Elements.{parted};
-ghost use Rattle.rows.specs.Numbers.{Whole};
 ghost use Rattle.rows.specs.Indexed.{Indexed};
-ghost use Rattle.reading.specs.Measures.{inOrder, withAside, tallied, measuredFrom, noTally};
+ghost use Rattle.reading.specs.Measures.{withAside, tallied, measuredFrom, noTally};
 
-// What the elements so far need: octets of the kept log and of an order log with all entries, whether the table says it all,
-// and the lowest place that may come then.
+// What the elements so far need: octets of the kept log, and of an order log with an entry for each.
 pub struct Tally {
     pub kept: usize,
     pub order: usize,
-    pub plain: bool,
-    pub least: usize,
 }
 
 // What a part needs, or the unknown element that is cut short.
 pub enum Measured {
-    Needs(usize, usize, bool),
+    Needs(usize, usize),
     Cut(usize, u8, usize),
 }
 
-// Whether the table says it all with an accepted element too: a place not lower than may come, under its first IEI.
-fn in_order(table: &[u32], t: Tally, place: usize, iei: u8) -> bool
-    requires { ⌜ Whole (now table) ⌝ }
-    ensures { λ r. ⌜ r ≡ inOrder (rowsOf (now (table .entry))) t place iei ⌝ }
-{
-    if !t.plain {
-        return false;
-    }
-    if place < t.least {
-        return false;
-    }
-    let row = numbers_at(table, place);
-    (iei as u32) == row.first
-}
-
 // With one element more.
-fn with_element(table: &[u32], t: Tally, e: Element) -> Tally
-    requires { ⌜ Whole (now table) × (t .kept + e .len < 2 ^ 32) × (t .order < 2 ^ 32) × (e .place < 2 ^ 32) ⌝ }
-    ensures { λ r. ⌜ r ≡ tallied (rowsOf (now (table .entry))) t e ⌝ }
+fn with_element(t: Tally, len: usize, placed: Placed) -> Tally
+    requires { ⌜ (t .kept + len < 2 ^ 32) × (t .order < 2 ^ 32) ⌝ }
+    ensures { λ r. ⌜ r ≡ tallied t len placed ⌝ }
 {
-    let placed = e.placed;
-    let place = e.place;
-    let len = e.len;
     match placed {
-        Placed::Known(iei) => Tally {
+        Placed::Known(_) => Tally {
             kept: t.kept,
             order: t.order + 2,
-            plain: in_order(table, t, place, iei),
-            least: place + 1,
         },
         Placed::Unknown => aside(t, len),
         Placed::Ignored(_) => aside(t, len),
@@ -80,8 +55,6 @@ fn aside(t: Tally, len: usize) -> Tally
     Tally {
         kept: t.kept + (count_len(len) + len),
         order: t.order + 1,
-        plain: false,
-        least: t.least,
     }
 }
 
@@ -94,23 +67,18 @@ pub(crate) fn measure(
     option: bool,
 ) -> Measured
     requires { ⌜ Indexed (now table) (now index) × (length (now part) ≤ 65535) ⌝ }
-    ensures { λ r. ⌜ r ≡ measuredFrom (rowsOf (now (table .entry))) noTally (parted (rowsOf (now (table .entry))) «tlve_start» option (now (part .entry))) ⌝ }
+    ensures { λ r. ⌜ r ≡ measuredFrom noTally (parted (rowsOf (now (table .entry))) «tlve_start» option (now (part .entry))) ⌝ }
 {
     let mut state = State {
         at: 0,
         seen: Seen { low: 0, high: 0 },
         highest: 0,
     };
-    let mut t = Tally {
-        kept: 0,
-        order: 0,
-        plain: true,
-        least: 0,
-    };
+    let mut t = Tally { kept: 0, order: 0 };
     loop {
         let at = state.at;
         if at >= part.len() {
-            return Measured::Needs(t.kept, t.order, t.plain);
+            return Measured::Needs(t.kept, t.order);
         }
         let x = part[at];
         let iei = iei_of(x);
@@ -127,14 +95,7 @@ pub(crate) fn measure(
         };
         match came {
             Came::Is(len, placed) => {
-                let e = Element {
-                    start: at,
-                    len,
-                    iei,
-                    place,
-                    placed,
-                };
-                t = with_element(table, t, e);
+                t = with_element(t, len, placed);
                 state = after(state, place, at + len);
             }
             Came::Cut => {

@@ -1,52 +1,52 @@
--- `decode_by_index` takes document 01's checks in their order: what is measured decides which refuses, before anything is written.
--- Where none does, what is filled is the definition's.
+-- `decode_by_index` takes the checks that need no reading, then the pass over a part of which the table says all.
+-- Where the pass says no, the rows are as they were, and the part is read element by element.
 use native.Mathlib.Omega.{arith}
-use mathlib.Core.Path.{sym, _∙_}
+use mathlib.Core.Path.{_≡_, ap, sym, _∙_}
+use mathlib.Core.List.{List}
+use Prim.Native.Nat.{ℕ}
+use Rattle.definitions.specs.Basic.{pick, over}
 use Rattle.definitions.specs.Rows.{rowsOf}
+use Rattle.definitions.specs.Elements.{elementsOf, parted}
+use Rattle.definitions.specs.Reading.{reading, placeRows}
 use Rattle.definitions.proofs.TableLaws.{few-places}
-use Rattle.reading.proofs.Decoding.{long, no-rows, cut-short, no-kept, no-order, ready, done}
+use Rattle.reading.specs.Decodes.{lentOf}
+use Rattle.reading.proofs.Decoding.{long, no-rows, all-plain, moved}
 use borrow.Author.Needs.{needs}
 use Rattle.reading.proofs.decode.decode_by_index.Statement.{statement}
 use Rattle.reading.proofs.decode.decode_by_index.Tie as tie
 
 returns : tie.Need-returns
-returns c = long (c .before .before .before .before .before .before .args .table .now) (c .before .before .before .before .before .before .args .tlve-start) (c .before .before .before .before .before .before .args .option) (c .before .before .before .before .before .before .args .octets .now) (c .before .before .before .before .before .before .args .rows .now) (c .before .before .before .before .before .before .args .kept .now) (c .before .before .before .before .before .before .args .order .now) (c .before .before .before .before .before .before .pre .1) (omega arith)
+returns c = let a = c .before .before .before .before .before .before .args in long (a .table .now) (a .tlve-start) (a .option) (a .octets .now) (a .rows .now) (a .kept .now) (a .order .now) (c .before .before .before .before .before .before .pre .1) (omega arith)
 
 places-requires : tie.Need-places-requires
 places-requires c κs = search needs
 
-mul-if2 : tie.Need-mul-if2
-mul-if2 c = omega (arith, c .places .ensures, few-places (rowsOf (c .before .before .before .before .before .before .before .args .table .now)) (c .before .before .before .before .before .before .before .pre .1))
+mul-n : tie.Need-mul-n
+mul-n c = omega (arith, c .places .ensures, few-places (rowsOf (c .before .before .before .before .before .before .before .args .table .now)) (c .before .before .before .before .before .before .before .pre .1))
 
 returns-2 : tie.Need-returns-2
-returns-2 c = no-rows (c .before .before .before .before .before .before .before .before .args .table .now) (c .before .before .before .before .before .before .before .before .args .tlve-start) (c .before .before .before .before .before .before .before .before .args .option) (c .before .before .before .before .before .before .before .before .args .octets .now) (c .before .before .before .before .before .before .before .before .args .rows .now) (c .before .before .before .before .before .before .before .before .args .kept .now) (c .before .before .before .before .before .before .before .before .args .order .now) (c .before .before .before .before .before .before .before .before .pre .1) (omega arith) (omega (arith, c .before .places .ensures))
+returns-2 c = let a = c .before .before .before .before .before .before .before .before .args in no-rows (a .table .now) (a .tlve-start) (a .option) (a .octets .now) (a .rows .now) (a .kept .now) (a .order .now) (c .before .before .before .before .before .before .before .before .pre .1) (omega arith) (omega (arith, c .before .places .ensures))
 
-measure-requires : tie.Need-measure-requires
-measure-requires c κs = search needs
-
-enum-known-start : tie.Need-enum-known-start
-enum-known-start c = search needs
-
-enum-known-k : tie.Need-enum-known-k
-enum-known-k c = search needs
-
-entries-needed-requires : tie.Need-entries-needed-requires
-entries-needed-requires c κs = search needs
-
-returns-3 : tie.Need-returns-3
-returns-3 c = no-kept (c .before .before .before .before .before .before .before .before .before .before .before .before .before .before .args .table .now) (c .before .before .before .before .before .before .before .before .before .before .before .before .before .before .args .tlve-start) (c .before .before .before .before .before .before .before .before .before .before .before .before .before .before .args .option) (c .before .before .before .before .before .before .before .before .before .before .before .before .before .before .args .octets .now) (c .before .before .before .before .before .before .before .before .before .before .before .before .before .before .args .rows .now) (c .before .before .before .before .before .before .before .before .before .before .before .before .before .before .args .kept .now) (c .before .before .before .before .before .before .before .before .before .before .before .before .before .before .args .order .now) (c .before .before .before .before .before .before .before .before .before .before .before .before .before .before .pre .1) (omega arith) (omega (arith, c .before .before .before .before .before .before .before .places .ensures)) (c .before .before .before .k .given .0 .0) (c .before .before .before .k .given .0 .1 .0) (c .before .before .before .k .given .0 .1 .1 .0) (sym (c .before .before .before .k .given .1) ∙ c .before .before .before .before .before .measure .ensures) (omega arith)
-
-returns-4 : tie.Need-returns-4
-returns-4 c = no-order (c .before .before .before .before .before .before .before .before .before .before .before .before .before .before .before .args .table .now) (c .before .before .before .before .before .before .before .before .before .before .before .before .before .before .before .args .tlve-start) (c .before .before .before .before .before .before .before .before .before .before .before .before .before .before .before .args .option) (c .before .before .before .before .before .before .before .before .before .before .before .before .before .before .before .args .octets .now) (c .before .before .before .before .before .before .before .before .before .before .before .before .before .before .before .args .rows .now) (c .before .before .before .before .before .before .before .before .before .before .before .before .before .before .before .args .kept .now) (c .before .before .before .before .before .before .before .before .before .before .before .before .before .before .before .args .order .now) (c .before .before .before .before .before .before .before .before .before .before .before .before .before .before .before .pre .1) (omega arith) (omega (arith, c .before .before .before .before .before .before .before .before .places .ensures)) (c .before .before .before .before .k .given .0 .0) (c .before .before .before .before .k .given .0 .1 .0) (c .before .before .before .before .k .given .0 .1 .1 .0) (sym (c .before .before .before .before .k .given .1) ∙ c .before .before .before .before .before .before .measure .ensures) (omega arith) (c .before .before .entries-needed .result) (c .before .before .entries-needed .ensures) (omega arith)
-
-fill-requires : tie.Need-fill-requires
-fill-requires c κs = ready (c .before .before .before .before .before .before .before .before .before .before .before .before .before .before .before .before .before .before .args .table .now) (c .before .before .before .before .before .before .before .before .before .before .before .before .before .before .before .before .before .before .args .tlve-start) (c .before .before .before .before .before .before .before .before .before .before .before .before .before .before .before .before .before .before .args .option) (c .before .before .before .before .before .before .before .before .before .before .before .before .before .before .before .before .before .before .args .octets .now) (c .before .before .before .before .before .before .before .before .before .before .before .before .before .before .before .before .before .before .args .rows .now) (c .before .before .before .before .before .before .before .before .before .before .before .before .before .before .before .before .before .before .args .kept .now) (c .before .before .before .before .before .before .before .before .before .before .before .before .before .before .before .before .before .before .args .order .now) (c .before .before .before .before .before .before .before .before .before .before .before .before .before .before .before .before .before .before .pre .1) (omega arith) (omega (arith, c .before .before .before .before .before .before .before .before .before .before .before .places .ensures)) (c .before .before .before .before .before .before .before .k .given .0 .0) (c .before .before .before .before .before .before .before .k .given .0 .1 .0) (c .before .before .before .before .before .before .before .k .given .0 .1 .1 .0) (sym (c .before .before .before .before .before .before .before .k .given .1) ∙ c .before .before .before .before .before .before .before .before .before .measure .ensures) (omega arith) (c .before .before .before .before .before .entries-needed .result) (c .before .before .before .before .before .entries-needed .ensures) (omega arith) (c .before .before .before .before .before .before .before .before .before .before .before .before .before .before .before .before .before .before .args .index .now) (c .before .before .before .before .before .before .before .before .before .before .before .before .before .before .before .before .before .before .pre .0)
-
-returns-5 : tie.Need-returns-5
-returns-5 c = cut-short (c .before .before .before .before .before .before .before .before .before .before .before .before .args .table .now) (c .before .before .before .before .before .before .before .before .before .before .before .before .args .tlve-start) (c .before .before .before .before .before .before .before .before .before .before .before .before .args .option) (c .before .before .before .before .before .before .before .before .before .before .before .before .args .octets .now) (c .before .before .before .before .before .before .before .before .before .before .before .before .args .rows .now) (c .before .before .before .before .before .before .before .before .before .before .before .before .args .kept .now) (c .before .before .before .before .before .before .before .before .before .before .before .before .args .order .now) (c .before .before .before .before .before .before .before .before .before .before .before .before .pre .1) (omega arith) (omega (arith, c .before .before .before .before .before .places .ensures)) (sym (c .before .start .given .1) ∙ c .before .before .before .measure .ensures)
+plain-requires : tie.Need-plain-requires
+plain-requires c κs =
+    let n = c .before .before .places .ensures in
+    (record { indexed = c .before .before .before .before .before .before .before .before .before .pre .0; passes = c .before .before .before .before .before .before .before .before .before .pre .1; short = omega arith; room = omega (arith, n) }, omega (arith, n), omega arith)
 
 same-length : tie.Need-same-length
 same-length c = search needs
+
+returns-3 : tie.Need-returns-3
+returns-3 c = let a = c .before .before .before .before .before .before .before .before .before .before .before .before .before .args in all-plain (a .table .now) (a .tlve-start) (a .option) (a .octets .now) (a .rows .now) (a .kept .now) (a .order .now) (c .before .before .before .before .before .before .before .before .before .before .before .before .before .pre .1) (omega arith) (omega (arith, c .before .before .before .before .before .before .places .ensures)) (rw (c .if3 .taken) at (c .before .before .before .plain .ensures (a .tlve-start) (a .option)))
+
+-- where the pass said no, the rows are as they were
+unchanged : (c : tie.Else3) → let a = c .before .before .before .before .before .before .before .before .before .before .before .before .before .args in (rows : List ℕ) → rows ≡ pick (c .before .before .before .plain .result) (over (placeRows (rowsOf (a .table .now)) (elementsOf (parted (rowsOf (a .table .now)) (a .tlve-start) (a .option) (a .octets .now)))) (a .rows .now)) (a .rows .now) → rows ≡ a .rows .now
+unchanged c rows e = e ∙ rw (c .if3 .left)
+
+decode-elements-requires : tie.Need-decode-elements-requires
+decode-elements-requires c κs =
+    let a = c .before .before .before .before .before .before .before .before .before .before .before .before .before .before .before .before .args in
+    let p = c .before .before .before .before .before .before .plain .ensures (a .tlve-start) (a .option) in
+    (record { indexed = c .before .before .before .before .before .before .before .before .before .before .before .before .before .before .before .before .pre .0; passes = c .before .before .before .before .before .before .before .before .before .before .before .before .before .before .before .before .pre .1; short = omega arith; room = rw (unchanged (c .before .before .before) _ (p .rows-are)) (omega (arith, c .before .before .before .before .before .before .before .before .before .places .ensures)) }, sym (p .is) ∙ c .before .before .before .if3 .left)
 
 same-length-2 : tie.Need-same-length-2
 same-length-2 c = search needs
@@ -54,8 +54,14 @@ same-length-2 c = search needs
 same-length-3 : tie.Need-same-length-3
 same-length-3 c = search needs
 
-returns-6 : tie.Need-returns-6
-returns-6 c = done (c .before .before .before .before .before .before .before .before .before .before .before .before .before .before .before .before .before .before .before .before .before .before .before .before .before .args .table .now) (c .before .before .before .before .before .before .before .before .before .before .before .before .before .before .before .before .before .before .before .before .before .before .before .before .before .args .tlve-start) (c .before .before .before .before .before .before .before .before .before .before .before .before .before .before .before .before .before .before .before .before .before .before .before .before .before .args .option) (c .before .before .before .before .before .before .before .before .before .before .before .before .before .before .before .before .before .before .before .before .before .before .before .before .before .args .octets .now) (c .before .before .before .before .before .before .before .before .before .before .before .before .before .before .before .before .before .before .before .before .before .before .before .before .before .args .rows .now) (c .before .before .before .before .before .before .before .before .before .before .before .before .before .before .before .before .before .before .before .before .before .before .before .before .before .args .kept .now) (c .before .before .before .before .before .before .before .before .before .before .before .before .before .before .before .before .before .before .before .before .before .before .before .before .before .args .order .now) (c .before .before .before .before .before .before .before .before .before .before .before .before .before .before .before .before .before .before .before .before .before .before .before .before .before .pre .1) (omega arith) (omega (arith, c .before .before .before .before .before .before .before .before .before .before .before .before .before .before .before .before .before .before .places .ensures)) (c .before .before .before .before .before .before .before .before .before .before .before .before .before .before .k .given .0 .0) (c .before .before .before .before .before .before .before .before .before .before .before .before .before .before .k .given .0 .1 .0) (c .before .before .before .before .before .before .before .before .before .before .before .before .before .before .k .given .0 .1 .1 .0) (sym (c .before .before .before .before .before .before .before .before .before .before .before .before .before .before .k .given .1) ∙ c .before .before .before .before .before .before .before .before .before .before .before .before .before .before .before .before .measure .ensures) (omega arith) (c .before .before .before .before .before .before .before .before .before .before .before .before .entries-needed .result) (c .before .before .before .before .before .before .before .before .before .before .before .before .entries-needed .ensures) (omega arith) (c .before .before .before .before .before .before .fill .ensures)
+same-length-4 : tie.Need-same-length-4
+same-length-4 c = search needs
+
+returns-4 : tie.Need-returns-4
+returns-4 c =
+    let a = c .before .before .before .before .before .before .before .before .before .before .before .before .before .before .before .before .before .before .before .before .before .before .before .args in
+    let p = c .before .before .before .before .before .before .before .before .before .before .before .before .before .plain .ensures (a .tlve-start) (a .option) in
+    moved (ap (λ (rows : List ℕ). reading (a .table .now) (a .tlve-start) (a .option) (a .octets .now) (lentOf rows (a .kept .now) (a .order .now))) (sym (unchanged (c .before .before .before .before .before .before .before .before .before .before) _ (p .rows-are)))) (c .before .before .before .before .before .before .decode-elements .ensures)
 
 pub decode-by-index-spec : {M : Type 1} → statement M
 decode-by-index-spec =
@@ -63,17 +69,13 @@ decode-by-index-spec =
     (tie.spec
     returns
     places-requires
-    mul-if2
+    mul-n
     returns-2
-    measure-requires
-    enum-known-start
-    enum-known-k
-    entries-needed-requires
-    returns-3
-    returns-4
-    fill-requires
-    returns-5
+    plain-requires
     same-length
+    returns-3
+    decode-elements-requires
     same-length-2
     same-length-3
-    returns-6)
+    same-length-4
+    returns-4)

@@ -1,7 +1,7 @@
--- `fill` clears the rows and enters every element; of a plain part the logs are left as they are.
+-- `fill` clears the rows and enters every element.
 -- Entering every element into rows of zeros gives the rows of the places.
 use Prim.Native.Nat.{ℕ, _*_}
-use mathlib.Core.Path.{_≡_, ap, sym, _∙_}
+use mathlib.Core.Path.{_≡_, ap, _∙_}
 use mathlib.Core.List.{List}
 use lib.ListN.{replicate}
 use Rattle.definitions.specs.Basic.{over}
@@ -10,7 +10,7 @@ use Rattle.definitions.specs.Elements.{elementsOf, parted}
 use Rattle.definitions.specs.Reading.{placeRows}
 use Rattle.reading.specs.Fills.{enteredAll}
 use Rattle.reading.proofs.Entered.{all-entered}
-use Rattle.reading.proofs.Lining.{plain-kept, plain-ready, still-ready}
+use Rattle.reading.proofs.Filling.{still-ready}
 use borrow.Author.Needs.{needs}
 use Rattle.reading.proofs.fill.fill.Statement.{statement}
 use Rattle.reading.proofs.fill.fill.Tie as tie
@@ -34,27 +34,11 @@ cleared c rows′ q =
     ap (enteredAll t es) (q ∙ ap (λ (m : ℕ). over (replicate (3 * m) 0) (a .rows .now)) (c .before .places .ensures))
     ∙ all-entered t (r .passes) (a .tlve-start) (a .option) (a .octets .now) es (r .decodes) (a .rows .now)
 
-fill-plain-requires : tie.Need-fill-plain-requires
-fill-plain-requires c κs = plain-ready (rw (c .before .if1 .taken) at (c .before .before .before .before .before .before .before .before .before .before .before .before .pre)) (search needs)
+fill-elements-requires : tie.Need-fill-elements-requires
+fill-elements-requires c κs = still-ready (c .before .before .before .before .before .before .before .before .before .before .before .before .before .pre) (search needs)
 
 same-length : tie.Need-same-length
 same-length c = search needs
-
-returns : tie.Need-returns
-unfolding over
-returns c =
-    let a = c .before .before .before .before .before .before .before .before .before .before .before .before .before .before .before .args in
-    let t = rowsOf (a .table .now) in
-    let r = c .before .before .before .before .before .before .before .before .before .before .before .before .before .before .before .pre in
-    let y = c .before .before .before .before .if1 .taken in
-    record {
-      rows-are = c .before .before .fill-plain .ensures ∙ cleared (c .before .before .before .before .before .before .before) _ (c .before .before .before .before .before .before .before .clear-rows .ensures);
-      kept-is = rw (plain-kept t 0 (elementsOf (parted t (a .tlve-start) (a .option) (a .octets .now))) (sym (r .plain-is) ∙ y));
-      order-is = rw y;
-    }
-
-fill-elements-requires : tie.Need-fill-elements-requires
-fill-elements-requires c κs = still-ready (rw (c .before .before .before .if1 .left) at (c .before .before .before .before .before .before .before .before .before .before .before .before .before .before .pre)) (search needs)
 
 same-length-2 : tie.Need-same-length-2
 same-length-2 c = search needs
@@ -62,11 +46,8 @@ same-length-2 c = search needs
 same-length-3 : tie.Need-same-length-3
 same-length-3 c = search needs
 
-same-length-4 : tie.Need-same-length-4
-same-length-4 c = search needs
-
-returns-2 : tie.Need-returns-2
-returns-2 c = let f = c .before .before .before .before .before .before .fill-elements .ensures in record { rows-are = f .rows-are ∙ cleared (c .before .before .before .before .before .before .before .before .before .before .before .before .before) _ (c .before .before .before .before .before .before .before .before .before .before .before .before .before .clear-rows .ensures); kept-is = f .kept-is; order-is = rw (c .before .before .before .before .before .before .before .before .before .before .if1 .left) (f .order-is) }
+returns : tie.Need-returns
+returns c = let f = c .before .before .before .before .before .before .fill-elements .ensures in record { rows-are = f .rows-are ∙ cleared (c .before .before .before .before .before .before .before .before .before .before .before .before) _ (c .before .before .before .before .before .before .before .before .before .before .before .before .clear-rows .ensures); kept-is = f .kept-is; order-is = f .order-is }
 
 pub fill-spec : {M : Type 1} → statement M
 fill-spec =
@@ -75,11 +56,8 @@ fill-spec =
     places-requires
     mul-clear-rows
     clear-rows-requires
-    fill-plain-requires
-    same-length
-    returns
     fill-elements-requires
+    same-length
     same-length-2
     same-length-3
-    same-length-4
-    returns-2)
+    returns)

@@ -2,7 +2,6 @@
 -- The measure is what is left of the part; a part that decodes is never cut short.
 use Prim.Native.Nat.{_-_}
 use native.Mathlib.Omega.{arith}
-use mathlib.Core.Bool.{false}
 use mathlib.Core.Path.{_≡_, refl, _∙_}
 use mathlib.Core.Logic.{⊎-elim, inl, inr}
 use lib.ListN.{length, getD, drop}
@@ -21,13 +20,13 @@ use Rattle.reading.proofs.fill.fill_elements.Tie as tie
 
 abbrev Inv-loop : tie.InvT-loop
 Inv-loop octets table index tlve-start option rows₀ kept₀ order₀ state₀ k₀ o₀ rows kept order state k o =
-    Filling table index tlve-start option false octets rows₀ kept₀ order₀ state k o rows kept order
+    Filling table index tlve-start option octets rows₀ kept₀ order₀ state k o rows kept order
 
 abbrev μ-loop : tie.MeasureT-loop
 μ-loop octets table index tlve-start option rows₀ kept₀ order₀ state₀ k₀ o₀ rows kept order state k o = length octets - state .at
 
 loop-holds : tie.Need-loop-holds Inv-loop μ-loop
-loop-holds c = let a = c .before .before .before .before .before .args in begun (a .table .now) (a .index .now) (a .tlve-start) (a .option) false (a .octets .now) (a .rows .now) (a .kept .now) (a .order .now) (c .before .before .before .before .before .pre)
+loop-holds c = let a = c .before .before .before .before .before .args in begun (a .table .now) (a .index .now) (a .tlve-start) (a .option) (a .octets .now) (a .rows .now) (a .kept .now) (a .order .now) (c .before .before .before .before .before .pre)
 
 same-length : tie.Need-same-length Inv-loop μ-loop
 same-length c = c .before .loop .inv .rows-long
@@ -39,7 +38,7 @@ same-length-3 : tie.Need-same-length-3 Inv-loop μ-loop
 same-length-3 c = c .before .loop .inv .order-long
 
 returns : tie.Need-returns Inv-loop μ-loop
-returns c = let a = c .before .before .before .before .before .before .before .args in let l = c .before .loop in ended (a .table .now) (a .index .now) (a .tlve-start) (a .option) false (a .octets .now) (a .rows .now) (a .kept .now) (a .order .now) (c .before .before .before .before .before .before .before .pre) (l .state) (l .k) (l .o) (l .rows) (l .kept) (l .order) (l .inv) (at-end (rowsOf (a .table .now)) (a .tlve-start) (a .option) (a .octets .now) (l .state) (l .inv .within) (omega arith))
+returns c = let a = c .before .before .before .before .before .before .before .args in let l = c .before .loop in ended (a .table .now) (a .index .now) (a .tlve-start) (a .option) (a .octets .now) (a .rows .now) (a .kept .now) (a .order .now) (c .before .before .before .before .before .before .before .pre) (l .state) (l .k) (l .o) (l .rows) (l .kept) (l .order) (l .inv) (at-end (rowsOf (a .table .now)) (a .tlve-start) (a .option) (a .octets .now) (l .state) (l .inv .within) (omega arith))
 
 shared-slice-read-x : tie.Need-shared-slice-read-x Inv-loop μ-loop
 shared-slice-read-x c = search needs
@@ -98,13 +97,13 @@ next : (c : tie.After-known-told Inv-loop μ-loop) → let a = c .before .before
 next c = let a = c .before .before .before .before .before .before .before .before .before .before .before .before .before .before .before .before .args in nexts (rowsOf (a .table .now)) (a .tlve-start) (a .option) (a .octets .now) (c .before .before .before .before .before .before .before .before .before .before .loop .state) (c .before .before .before .before .before .before .before .before .before .before .loop .inv .within) _ _ (rw (c .before .came .given .1) at (here (c .before .before .before)))
 
 enter-row-requires : tie.Need-enter-row-requires Inv-loop μ-loop
-enter-row-requires c κs = let a = c .before .before .before .before .before .before .before .before .before .before .before .before .before .before .before .before .before .args in let l = c .before .before .before .before .before .before .before .before .before .before .before .loop in (c .before .before .before .before .before .before .before .before .before .before .before .before .before .before .before .before .before .pre .indexed .whole, row-fits (a .table .now) (a .index .now) (a .tlve-start) (a .option) false (a .octets .now) (a .rows .now) (a .kept .now) (a .order .now) (c .before .before .before .before .before .before .before .before .before .before .before .before .before .before .before .before .before .pre) (l .state) (behind (c .before)) (element (c .before)) (l .k) (l .o) (l .rows) (l .kept) (l .order) (l .inv) (next (c .before)))
+enter-row-requires c κs = let a = c .before .before .before .before .before .before .before .before .before .before .before .before .before .before .before .before .before .args in let l = c .before .before .before .before .before .before .before .before .before .before .before .loop in (c .before .before .before .before .before .before .before .before .before .before .before .before .before .before .before .before .before .pre .indexed .whole, row-fits (a .table .now) (a .index .now) (a .tlve-start) (a .option) (a .octets .now) (a .rows .now) (a .kept .now) (a .order .now) (c .before .before .before .before .before .before .before .before .before .before .before .before .before .before .before .before .before .pre) (l .state) (behind (c .before)) (element (c .before)) (l .k) (l .o) (l .rows) (l .kept) (l .order) (l .inv) (next (c .before)))
 
 keep-requires : tie.Need-keep-requires Inv-loop μ-loop
-keep-requires c κs = let a = c .before .before .before .before .before .before .before .before .before .before .before .before .before .before .before .before .before .before .before .before .before .args in let l = c .before .before .before .before .before .before .before .before .before .before .before .before .before .before .before .loop in let n = next (c .before .before .before .before .before) in (omega (arith, n .starts, n .within), n .some-octet, omega (arith, n .within, c .before .before .before .before .before .before .before .before .before .before .before .before .before .before .before .before .before .before .before .before .before .pre .short), omega (arith, kept-fits (a .table .now) (a .index .now) (a .tlve-start) (a .option) false (a .octets .now) (a .rows .now) (a .kept .now) (a .order .now) (c .before .before .before .before .before .before .before .before .before .before .before .before .before .before .before .before .before .before .before .before .before .pre) (l .state) (behind (c .before .before .before .before .before)) (element (c .before .before .before .before .before)) (l .k) (l .o) (l .rows) (l .kept) (l .order) (l .inv) (next (c .before .before .before .before .before))))
+keep-requires c κs = let a = c .before .before .before .before .before .before .before .before .before .before .before .before .before .before .before .before .before .before .before .before .before .args in let l = c .before .before .before .before .before .before .before .before .before .before .before .before .before .before .before .loop in let n = next (c .before .before .before .before .before) in (omega (arith, n .starts, n .within), n .some-octet, omega (arith, n .within, c .before .before .before .before .before .before .before .before .before .before .before .before .before .before .before .before .before .before .before .before .before .pre .short), omega (arith, kept-fits (a .table .now) (a .index .now) (a .tlve-start) (a .option) (a .octets .now) (a .rows .now) (a .kept .now) (a .order .now) (c .before .before .before .before .before .before .before .before .before .before .before .before .before .before .before .before .before .before .before .before .before .pre) (l .state) (behind (c .before .before .before .before .before)) (element (c .before .before .before .before .before)) (l .k) (l .o) (l .rows) (l .kept) (l .order) (l .inv) (next (c .before .before .before .before .before))))
 
 note-requires : tie.Need-note-requires Inv-loop μ-loop
-note-requires c κs = let a = c .before .before .before .before .before .before .before .before .before .before .before .before .before .before .before .before .before .before .before .before .before .before .before .before .before .args in let l = c .before .before .before .before .before .before .before .before .before .before .before .before .before .before .before .before .before .before .before .loop in omega (arith, order-fits (a .table .now) (a .index .now) (a .tlve-start) (a .option) false (a .octets .now) (a .rows .now) (a .kept .now) (a .order .now) (c .before .before .before .before .before .before .before .before .before .before .before .before .before .before .before .before .before .before .before .before .before .before .before .before .before .pre) (l .state) (behind (c .before .before .before .before .before .before .before .before .before)) (element (c .before .before .before .before .before .before .before .before .before)) (l .k) (l .o) (l .rows) (l .kept) (l .order) (l .inv) (next (c .before .before .before .before .before .before .before .before .before)))
+note-requires c κs = let a = c .before .before .before .before .before .before .before .before .before .before .before .before .before .before .before .before .before .before .before .before .before .before .before .before .before .args in let l = c .before .before .before .before .before .before .before .before .before .before .before .before .before .before .before .before .before .before .before .loop in omega (arith, order-fits (a .table .now) (a .index .now) (a .tlve-start) (a .option) (a .octets .now) (a .rows .now) (a .kept .now) (a .order .now) (c .before .before .before .before .before .before .before .before .before .before .before .before .before .before .before .before .before .before .before .before .before .before .before .before .before .pre) (l .state) (behind (c .before .before .before .before .before .before .before .before .before)) (element (c .before .before .before .before .before .before .before .before .before)) (l .k) (l .o) (l .rows) (l .kept) (l .order) (l .inv) (next (c .before .before .before .before .before .before .before .before .before)))
 
 add-after : tie.Need-add-after Inv-loop μ-loop
 add-after c = let n = next (c .before .before .before .before .before .before .before .before .before .before .before .before) in omega (arith, n .within, c .before .before .before .before .before .before .before .before .before .before .before .before .before .before .before .before .before .before .before .before .before .before .before .before .before .before .before .before .pre .short)
@@ -116,7 +115,7 @@ loop-less : tie.Need-loop-less Inv-loop μ-loop
 loop-less c = let n = next (c .before .before .before .before .before .before .before .before .before .before .before .before .before) in rw (c .after .ensures) (omega (arith, n .further, n .within, n .some-octet))
 
 loop-again : tie.Need-loop-again Inv-loop μ-loop
-loop-again c = let a = c .before .before .before .before .before .before .before .before .before .before .before .before .before .before .before .before .before .before .before .before .before .before .before .before .before .before .before .before .before .args in let l = c .before .before .before .before .before .before .before .before .before .before .before .before .before .before .before .before .before .before .before .before .before .before .before .loop in moved (a .table .now) (a .index .now) (a .tlve-start) (a .option) false (a .octets .now) (a .rows .now) (a .kept .now) (a .order .now) (rw (← c .after .ensures) at (filled (a .table .now) (a .index .now) (a .tlve-start) (a .option) false (a .octets .now) (a .rows .now) (a .kept .now) (a .order .now) (c .before .before .before .before .before .before .before .before .before .before .before .before .before .before .before .before .before .before .before .before .before .before .before .before .before .before .before .before .before .pre) (l .state) (behind (c .before .before .before .before .before .before .before .before .before .before .before .before .before)) (element (c .before .before .before .before .before .before .before .before .before .before .before .before .before)) (l .k) (l .o) (l .rows) (l .kept) (l .order) (l .inv) (next (c .before .before .before .before .before .before .before .before .before .before .before .before .before)))) (c .before .before .before .before .before .before .before .keep .ensures .0) (c .before .before .before .note .ensures .0) (c .before .before .before .before .before .before .before .before .before .before .before .enter-row .ensures) (c .before .before .before .before .before .before .before .keep .ensures .1) (c .before .before .before .note .ensures .1)
+loop-again c = let a = c .before .before .before .before .before .before .before .before .before .before .before .before .before .before .before .before .before .before .before .before .before .before .before .before .before .before .before .before .before .args in let l = c .before .before .before .before .before .before .before .before .before .before .before .before .before .before .before .before .before .before .before .before .before .before .before .loop in moved (a .table .now) (a .index .now) (a .tlve-start) (a .option) (a .octets .now) (a .rows .now) (a .kept .now) (a .order .now) (rw (← c .after .ensures) at (filled (a .table .now) (a .index .now) (a .tlve-start) (a .option) (a .octets .now) (a .rows .now) (a .kept .now) (a .order .now) (c .before .before .before .before .before .before .before .before .before .before .before .before .before .before .before .before .before .before .before .before .before .before .before .before .before .before .before .before .before .pre) (l .state) (behind (c .before .before .before .before .before .before .before .before .before .before .before .before .before)) (element (c .before .before .before .before .before .before .before .before .before .before .before .before .before)) (l .k) (l .o) (l .rows) (l .kept) (l .order) (l .inv) (next (c .before .before .before .before .before .before .before .before .before .before .before .before .before)))) (c .before .before .before .before .before .before .before .keep .ensures .0) (c .before .before .before .note .ensures .0) (c .before .before .before .before .before .before .before .before .before .before .before .enter-row .ensures) (c .before .before .before .before .before .before .before .keep .ensures .1) (c .before .before .before .note .ensures .1)
 
 enum-told : tie.Need-enum-told Inv-loop μ-loop
 enum-told c = search needs
@@ -131,7 +130,7 @@ same-length-6 : tie.Need-same-length-6 Inv-loop μ-loop
 same-length-6 c = c .before .before .before .before .before .before .before .before .before .loop .inv .order-long
 
 returns-2 : tie.Need-returns-2 Inv-loop μ-loop
-returns-2 c = let a = c .before .before .before .before .before .before .before .before .before .before .before .before .before .before .before .args in let l = c .before .before .before .before .before .before .before .before .before .loop in absurd (never-cut (a .table .now) (a .index .now) (a .tlve-start) (a .option) false (a .octets .now) (a .rows .now) (a .kept .now) (a .order .now) (c .before .before .before .before .before .before .before .before .before .before .before .before .before .before .before .pre) (l .inv) (cuts (rowsOf (a .table .now)) (a .tlve-start) (a .option) (a .octets .now) (l .state) (l .inv .within) (rw (c .enum-told .given .1) at (here (c .before .before)))))
+returns-2 c = let a = c .before .before .before .before .before .before .before .before .before .before .before .before .before .before .before .args in let l = c .before .before .before .before .before .before .before .before .before .loop in absurd (never-cut (a .table .now) (a .index .now) (a .tlve-start) (a .option) (a .octets .now) (a .rows .now) (a .kept .now) (a .order .now) (c .before .before .before .before .before .before .before .before .before .before .before .before .before .before .before .pre) (l .inv) (cuts (rowsOf (a .table .now)) (a .tlve-start) (a .option) (a .octets .now) (l .state) (l .inv .within) (rw (c .enum-told .given .1) at (here (c .before .before)))))
 
 pub fill-elements-spec : {M : Type 1} → statement M
 fill-elements-spec =

@@ -15,7 +15,7 @@ use Rattle.elements.proofs.Came.{Ways, came-here}
 use Rattle.elements.proofs.Nexts.{Nexts, nexts, cuts, at-end}
 use Rattle.reading.specs.Measures.{measuredFrom, tallied}
 use Rattle.reading.proofs.Tallies.{needs-none}
-use Rattle.reading.proofs.Counting.{Counting, begun, counted, place-small}
+use Rattle.reading.proofs.Counting.{Counting, begun, counted}
 use borrow.Author.Needs.{needs}
 use Rattle.reading.proofs.measure.measure.Statement.{statement}
 use Rattle.reading.proofs.measure.measure.Tie as tie
@@ -30,7 +30,7 @@ loop-holds : tie.Need-loop-holds Inv-loop μ-loop
 loop-holds c = let a = c .before .before .args in begun (rowsOf (a .table .now)) (a .tlve-start) (a .option) (a .part .now)
 
 returns : tie.Need-returns Inv-loop μ-loop
-returns c = let a = c .before .before .before .before .args in let l = c .before .loop in needs-none (rowsOf (a .table .now)) (l .t) ∙ ap (measuredFrom (rowsOf (a .table .now)) (l .t)) (sym (at-end (rowsOf (a .table .now)) (a .tlve-start) (a .option) (a .part .now) (l .state) (l .inv .within) (omega arith))) ∙ l .inv .tells
+returns c = let a = c .before .before .before .before .args in let l = c .before .loop in needs-none (l .t) ∙ ap (measuredFrom (l .t)) (sym (at-end (rowsOf (a .table .now)) (a .tlve-start) (a .option) (a .part .now) (l .state) (l .inv .within) (omega arith))) ∙ l .inv .tells
 
 shared-slice-read-x : tie.Need-shared-slice-read-x Inv-loop μ-loop
 shared-slice-read-x c = search needs
@@ -89,7 +89,7 @@ next : (c : tie.After-known-told Inv-loop μ-loop) → let a = c .before .before
 next c = let a = c .before .before .before .before .before .before .before .before .before .before .before .before .before .args in nexts (rowsOf (a .table .now)) (a .tlve-start) (a .option) (a .part .now) (c .before .before .before .before .before .before .before .before .before .before .loop .state) (c .before .before .before .before .before .before .before .before .before .before .loop .inv .within) _ _ (rw (c .before .came .given .1) at (here (c .before .before .before)))
 
 with-element-requires : tie.Need-with-element-requires Inv-loop μ-loop
-with-element-requires c κs = let n = next c in let i = c .before .before .before .before .before .before .before .before .before .before .loop .inv in let ix = c .before .before .before .before .before .before .before .before .before .before .before .before .before .pre .0 in let p = place-small _ _ ix n in (ix .whole, omega (arith, n .within, i .kept), omega (arith, n .within, i .order), omega arith)
+with-element-requires c κs = let n = next c in let i = c .before .before .before .before .before .before .before .before .before .before .loop .inv in (omega (arith, n .within, i .kept), omega (arith, n .within, i .order))
 
 add-after : tie.Need-add-after Inv-loop μ-loop
 add-after c = let n = next (c .before) in omega (arith, n .within)
@@ -97,7 +97,7 @@ add-after c = let n = next (c .before) in omega (arith, n .within)
 after-requires : tie.Need-after-requires Inv-loop μ-loop
 after-requires c κs = search needs
 
-stepped : (c : tie.After-with-element Inv-loop μ-loop) → let a = c .before .before .before .before .before .before .before .before .before .before .before .before .before .before .args in Counting (rowsOf (a .table .now)) (a .tlve-start) (a .option) (a .part .now) (behind (c .before)) (tallied (rowsOf (a .table .now)) (c .before .before .before .before .before .before .before .before .before .before .before .loop .t) (element (c .before))) × (c .before .before .before .before .before .before .before .before .before .before .before .loop .state .at < behind (c .before) .at)
+stepped : (c : tie.After-with-element Inv-loop μ-loop) → let a = c .before .before .before .before .before .before .before .before .before .before .before .before .before .before .args in Counting (rowsOf (a .table .now)) (a .tlve-start) (a .option) (a .part .now) (behind (c .before)) (tallied (c .before .before .before .before .before .before .before .before .before .before .before .loop .t) (element (c .before) .len) (element (c .before) .placed)) × (c .before .before .before .before .before .before .before .before .before .before .before .loop .state .at < behind (c .before) .at)
 stepped c = let a = c .before .before .before .before .before .before .before .before .before .before .before .before .before .before .args in let l = c .before .before .before .before .before .before .before .before .before .before .before .loop in counted (rowsOf (a .table .now)) (a .tlve-start) (a .option) (a .part .now) (l .state) (behind (c .before)) (l .t) (element (c .before)) (l .inv) (next (c .before))
 
 loop-less : tie.Need-loop-less Inv-loop μ-loop
@@ -110,7 +110,7 @@ enum-told : tie.Need-enum-told Inv-loop μ-loop
 enum-told c = search needs
 
 returns-2 : tie.Need-returns-2 Inv-loop μ-loop
-returns-2 c = let a = c .before .before .before .before .before .before .before .before .before .before .before .before .args in let l = c .before .before .before .before .before .before .before .before .before .loop in ap (measuredFrom (rowsOf (a .table .now)) (l .t)) (sym (cuts (rowsOf (a .table .now)) (a .tlve-start) (a .option) (a .part .now) (l .state) (l .inv .within) (rw to-end (rw (c .enum-told .given .1) at (here (c .before .before)))))) ∙ l .inv .tells
+returns-2 c = let a = c .before .before .before .before .before .before .before .before .before .before .before .before .args in let l = c .before .before .before .before .before .before .before .before .before .loop in ap (measuredFrom (l .t)) (sym (cuts (rowsOf (a .table .now)) (a .tlve-start) (a .option) (a .part .now) (l .state) (l .inv .within) (rw to-end (rw (c .enum-told .given .1) at (here (c .before .before)))))) ∙ l .inv .tells
 
 pub measure-spec : {M : Type 1} → statement M
 measure-spec =

@@ -1,0 +1,36 @@
+-- A part of which the table says all: its rows, and what they are found in.
+use Prim.Native.Nat.{ℕ, _*_, _≤_}
+use mathlib.Core.Path.{_≡_}
+use mathlib.Core.List.{List}
+use mathlib.Core.Bool.{Bool, false}
+use mathlib.Core.Option.{Option, none, some}
+use lib.ListN.{length}
+use Rattle.definitions.specs.Basic.{pick, over}
+use Rattle.definitions.specs.Rows.{Row, rowsOf, firstBad}
+use Rattle.definitions.specs.Elements.{Parted, elements, cutShort, elementsOf}
+use Rattle.definitions.specs.Logs.{plainFrom}
+use Rattle.definitions.specs.Reading.{placeRows}
+use Rattle.rows.specs.Indexed.{Indexed}
+use Rattle.reading.specs.Fills.{enteredAll}
+
+-- whether the table says all of a part, where no place below the least may come
+abbrev pub plainIn : List Row → ℕ → Parted → Bool
+plainIn t least (elements es) = plainFrom t least es
+plainIn t least (cutShort a x n) = false
+
+-- the rows with every element of such a part entered; none of another part
+abbrev pub plainRows : List Row → ℕ → Parted → List ℕ → Option (List ℕ)
+plainRows t least (elements es) rows = pick (plainFrom t least es) (some (enteredAll t es rows)) none
+plainRows t least (cutShort a x n) rows = none
+
+-- a part that is not too long, under a table that passes and its index, and so many numbers for its rows
+pub record Fits (table index part : List ℕ) (n : ℕ) : Type 0 where
+  pub indexed : Indexed table index
+  pub passes : firstBad (rowsOf table) ≡ none
+  pub short : length part ≤ 65535
+  pub room : 3 * length (rowsOf table) ≤ n
+
+-- the answer for a part, and the rows at exit
+pub record Plainly (t : List Row) (p : Parted) (r : Bool) (rows rows′ : List ℕ) : Type 0 where
+  pub is : r ≡ plainIn t 0 p
+  pub rows-are : rows′ ≡ pick r (over (placeRows t (elementsOf p)) rows) rows
