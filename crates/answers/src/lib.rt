@@ -9,6 +9,7 @@ use kept::Counted;
 use kept::Got;
 use kept::Pushed;
 use length::Length;
+use mandatory_writing::encode::MandatoryWrote;
 use order::Entry;
 use order::IgnoredIeReason;
 use order::Placed;
@@ -25,6 +26,7 @@ ghost use Rattle.findings.specs.Findings.{logAs, foundAs};
 ghost use Rattle.definitions.specs.Basic.{answer};
 ghost use Rattle.definitions.specs.Logs.{orderEntry};
 ghost use Rattle.edits.specs.Edits.{editedAs};
+ghost use Rattle.mandatory_writing.specs.Writes.{wroteAs};
 ghost use Rattle.kept.specs.Kept.{pushedAs, countedAs, gotAs};
 ghost use Rattle.order.specs.Order.{placedAs, entryAs};
 ghost use Rattle.reading.specs.Decodes.{roomAs, decodedAs};
@@ -254,6 +256,21 @@ pub fn encoded_said(encoded: Encoded, values: &mut [u64; 5]) -> u32
         Encoded::Unfit(place) => one(10, place as u64, values),
         Encoded::Malformed(which) => which_said(which, values),
         Encoded::NoOutput(need) => one(12, need, values),
+    }
+}
+
+pub fn wrote_said(wrote: MandatoryWrote, values: &mut [u64; 5]) -> u32
+    ensures { λ r. ⌜ Says (wroteAs wrote) r (now (values .entry)) (now (values .exit)) ⌝ }
+{
+    match wrote {
+        MandatoryWrote::Done(n) => one(0, n as u64, values),
+        MandatoryWrote::NoRoom => one(2, 1, values),
+        MandatoryWrote::TooLong => none(3, values),
+        MandatoryWrote::BadTable(row) => one(4, row as u64, values),
+        MandatoryWrote::NoTable => none(5, values),
+        MandatoryWrote::Unfit(row) => one(10, row as u64, values),
+        MandatoryWrote::Malformed => one(11, 3, values),
+        MandatoryWrote::OutputShort(need) => one(12, need as u64, values),
     }
 }
 
