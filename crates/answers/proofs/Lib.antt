@@ -1,2 +1,3 @@
 -- Laws that proofs cite.
 pub mod Laws
+pub mod Notes

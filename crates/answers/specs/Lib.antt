@@ -1,3 +1,4 @@
 -- What the calls of the C interface return.
 pub mod Says
 pub mod Nexts
+pub mod Mandated

@@ -9,6 +9,7 @@ use Rattle.definitions.specs.Reading.{Read}
 use Rattle.definitions.specs.Values.{Edited}
 use Rattle.definitions.specs.Writing.{Wrote}
 use Rattle.definitions.specs.Findings.{Noted}
+use Rattle.definitions.specs.Mandatory.{RowsWrote}
 use Rattle.length.specs.declared.Length.{Length}
 
 -- values stored one after the other from a place on; every other place is as it was. The five lent places are known by their
@@ -46,6 +47,11 @@ pub record EditSays (e : Edited) (number : ℕ) (before after rows set : List �
 
 -- the same of a writing: number and values, and the output
 pub record WriteSays (w : Wrote) (number : ℕ) (before after output : List ℕ) : Type 0 where
+  pub says : Says (w .said) number before after
+  pub output-is : output ≡ w .output
+
+-- of a writing of mandatory rows
+pub record RowsWriteSays (w : RowsWrote) (number : ℕ) (before after output : List ℕ) : Type 0 where
   pub says : Says (w .said) number before after
   pub output-is : output ≡ w .output
 

@@ -9,6 +9,10 @@ use kept::Counted;
 use kept::Got;
 use kept::Pushed;
 use length::Length;
+use mandatory::decode::Mandated;
+use mandatory::decode::MandatoryRead;
+use mandatory::notes::Notes;
+use mandatory_writing::encode::MandatoryWrote;
 use order::Entry;
 use order::IgnoredIeReason;
 use order::Placed;
@@ -25,12 +29,14 @@ ghost use Rattle.findings.specs.Findings.{logAs, foundAs};
 ghost use Rattle.definitions.specs.Basic.{answer};
 ghost use Rattle.definitions.specs.Logs.{orderEntry};
 ghost use Rattle.edits.specs.Edits.{editedAs};
+ghost use Rattle.mandatory_writing.specs.Writes.{wroteAs};
 ghost use Rattle.kept.specs.Kept.{pushedAs, countedAs, gotAs};
 ghost use Rattle.order.specs.Order.{placedAs, entryAs};
 ghost use Rattle.reading.specs.Decodes.{roomAs, decodedAs};
 ghost use Rattle.values.specs.Shows.{shownAs};
 ghost use Rattle.rows.specs.Answers.{checkedAs, placeAs};
 ghost use Rattle.writing.specs.Encodes.{whichAs, encodedAs};
+ghost use Rattle.answers.specs.Mandated.{usedNotes, notesPut, briefAs, MandatedSays};
 ghost use Rattle.answers.specs.Nexts.{stateNumbers, verdictNumber, NextSays};
 ghost use Rattle.answers.specs.Says.{put, Says, checkAnswer, placeAnswer, lengthAnswer, lengthAs};
 
@@ -254,6 +260,72 @@ pub fn encoded_said(encoded: Encoded, values: &mut [u64; 5]) -> u32
         Encoded::Unfit(place) => one(10, place as u64, values),
         Encoded::Malformed(which) => which_said(which, values),
         Encoded::NoOutput(need) => one(12, need, values),
+    }
+}
+
+// How many notes are used, of a count.
+fn used_notes(count: usize) -> usize
+    ensures { λ r. ⌜ r ≡ usedNotes count ⌝ }
+{
+    if count < 32 {
+        return count;
+    }
+    32
+}
+
+// Row and number of each note that is used, two numbers each; the others stay as they were. Returns how many are used.
+fn put_notes(from: Notes, notes: &mut [u32; 64]) -> u64
+    ensures { λ r. ⌜ (r ≡ usedNotes (from .count)) × (now (notes .exit) ≡ put (notesPut from) (now (notes .entry))) ⌝ }
+{
+    let used = used_notes(from.count);
+    let mut i = 0;
+    while i < used {
+        let note = from.notes[i];
+        notes[2 * i] = note.row;
+        notes[2 * i + 1] = note.number;
+        i += 1;
+    }
+    used as u64
+}
+
+// What reading mandatory rows answers, with how many notes there are.
+fn brief_said(mandated: Mandated, count: u64, values: &mut [u64; 5]) -> u32
+    ensures { λ r. ⌜ Says (briefAs mandated count) r (now (values .entry)) (now (values .exit)) ⌝ }
+{
+    match mandated {
+        Mandated::Done(n) => two(0, n as u64, count, values),
+        Mandated::NoRoom => one(2, 1, values),
+        Mandated::TooLong => none(3, values),
+        Mandated::BadTable(row) => one(4, row as u64, values),
+        Mandated::NoTable => none(5, values),
+        Mandated::Missing(row) => two(6, row as u64, count, values),
+        Mandated::Truncated(row) => two(7, row as u64, count, values),
+        Mandated::TooShort(row) => two(8, row as u64, count, values),
+        Mandated::Syntax(row) => two(9, row as u64, count, values),
+    }
+}
+
+pub fn mandated_said(read: MandatoryRead, notes: &mut [u32; 64], values: &mut [u64; 5]) -> u32
+    ensures { λ r. ⌜ MandatedSays read r (now (values .entry)) (now (values .exit)) (now (notes .entry)) (now (notes .exit)) ⌝ }
+{
+    let from = read.notes;
+    let count = put_notes(from, notes);
+    let mandated = read.answer;
+    brief_said(mandated, count, values)
+}
+
+pub fn wrote_said(wrote: MandatoryWrote, values: &mut [u64; 5]) -> u32
+    ensures { λ r. ⌜ Says (wroteAs wrote) r (now (values .entry)) (now (values .exit)) ⌝ }
+{
+    match wrote {
+        MandatoryWrote::Done(n) => one(0, n as u64, values),
+        MandatoryWrote::NoRoom => one(2, 1, values),
+        MandatoryWrote::TooLong => none(3, values),
+        MandatoryWrote::BadTable(row) => one(4, row as u64, values),
+        MandatoryWrote::NoTable => none(5, values),
+        MandatoryWrote::Unfit(row) => one(10, row as u64, values),
+        MandatoryWrote::Malformed => one(11, 3, values),
+        MandatoryWrote::OutputShort(need) => one(12, need as u64, values),
     }
 }
 

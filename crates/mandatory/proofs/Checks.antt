@@ -39,7 +39,7 @@ module _ (table : List ℕ) (lenient : Bool) (part rows : List ℕ) where
   Refuses a = Reads reading (record { answer = a; notes = noNotes }) rows
 
   refuses : (a : Mandated) → reading ≡ record { said = answer (numberOf a) (valuesOf a); rows = rows } → Refuses a
-  refuses a e = record { answers = said-bare a ∙ ap (λ (x : RowsRead). x .said) (sym e); tidy = tidy-none; rows-are = ap (λ (x : RowsRead). x .rows) (sym e) }
+  refuses a e = record { answers = said-bare a ∙ ap (λ (x : RowsRead). x .said) (sym e); tidy = tidy-none; bare = λ l u. notes-none; rows-are = ap (λ (x : RowsRead). x .rows) (sym e) }
 
   pub read-bad : (k : ℕ) → firstBadMandatory t ≡ some k → Refuses (Mandated.BadTable k)
   unfolding mandatoryReading refusal
@@ -82,7 +82,9 @@ module _ (table : List ℕ) (lenient : Bool) (part rows : List ℕ) where
             go none e = absurd (eqb-false (numberOf (r .answer)) 0 n (number ∙ ap (λ (a : Answer). a .number) (told e)))
             go (some a) e =
                 let q = read-stopped e in
-                record { answers = told e ∙ ap (λ (x : RowsRead). x .said) (sym q); tidy = j .tidy; rows-are = ap (λ (x : RowsRead). x .rows) (sym q) }
+                let m : numberOf (r .answer) ≡ a .number = number ∙ ap (λ (x : Answer). x .number) (told e) in
+                let g : 6 ≤ a .number = rw e at (i .number) in
+                record { answers = told e ∙ ap (λ (x : RowsRead). x .said) (sym q); tidy = j .tidy; bare = λ l u. absurd (omega arith); rows-are = ap (λ (x : RowsRead). x .rows) (sym q) }
 
         pub read-done : {rows′ : List ℕ} → eqb (numberOf (r .answer)) 0 ≡ true → rows′ ≡ over (rowsFrom 0 t part) rows → Reads reading r rows′
         read-done {rows′} n w = go (o .refused) refl
@@ -90,11 +92,12 @@ module _ (table : List ℕ) (lenient : Bool) (part rows : List ℕ) where
             go : (x : Option Answer) → o .refused ≡ x → Reads reading r rows′
             go none e =
                 let q = read-all e in
-                record { answers = told e ∙ ap (λ (x : RowsRead). x .said) (sym q); tidy = j .tidy; rows-are = w ∙ ap (λ (s : List ℕ). over s rows) (sym (i .leaves e)) ∙ ap (λ (x : RowsRead). x .rows) (sym q) }
+                let z : numberOf (r .answer) ≡ 0 = eqb-true (numberOf (r .answer)) 0 n in
+                record { answers = told e ∙ ap (λ (x : RowsRead). x .said) (sym q); tidy = j .tidy; bare = λ l u. absurd (omega arith); rows-are = w ∙ ap (λ (s : List ℕ). over s rows) (sym (i .leaves e)) ∙ ap (λ (x : RowsRead). x .rows) (sym q) }
             go (some a) e =
                 let z : numberOf (r .answer) ≡ 0 = eqb-true (numberOf (r .answer)) 0 n in
                 let m : numberOf (r .answer) ≡ a .number = number ∙ ap (λ (x : Answer). x .number) (told e) in
-                let l : 1 ≤ a .number = rw e at (i .number) in
+                let l : 6 ≤ a .number = rw e at (i .number) in
                 absurd (omega arith)
 
 -- ---- by table number
@@ -110,4 +113,4 @@ module _ (n : ℕ) (lenient : Bool) (part rows : List ℕ) where
   unfolding mandatoryReadingBy
   by-none e =
       let q : mandatoryReadingBy n lenient part rows ≡ record { said = answer 5 []; rows = rows } = rw (e, mandatoryReadingBy) in
-      rw q (record { answers = said-bare Mandated.NoTable; tidy = tidy-none; rows-are = refl })
+      rw q (record { answers = said-bare Mandated.NoTable; tidy = tidy-none; bare = λ l u. notes-none; rows-are = refl })

@@ -18,10 +18,10 @@ abbrev pub saidBy : Option Answer → Answer → Answer
 saidBy none a = a
 saidBy (some r) a = r
 
--- a refusal's number is not that of done
+-- a refusal by a row has a number from 6 on
 abbrev pub Refusal : Option Answer → Type 0
 Refusal none = Unit
-Refusal (some a) = 1 ≤ a .number
+Refusal (some a) = 6 ≤ a .number
 
 -- an outcome of the definition, as the loops have it: what is said, and what is left behind the rows before
 pub record Same (o : Rowed) (a : Answer) (rows left : List ℕ) : Type 0 where
@@ -44,7 +44,7 @@ module _ (lenient : Bool) (k at : ℕ) (rs : List MandatoryRow) (s rows notes : 
   abbrev Here : Rowed → Found → Type 0
   Here o f = Same o (judgedBy lenient k notes f saidOn) rows (rowsBy at f leftOn)
 
-  halted : (number : ℕ) {a : Answer} {left : List ℕ} → 1 ≤ number → answer number (k ∷ notes) ≡ a → Same (stopped number k at rows notes) a rows left
+  halted : (number : ℕ) {a : Answer} {left : List ℕ} → 6 ≤ number → answer number (k ∷ notes) ≡ a → Same (stopped number k at rows notes) a rows left
   unfolding stopped
   halted number h e = record { number = h; said = e; leaves = λ p. let z : _≡_ {A = ℕ} 0 1 = cc in absurd (omega arith) }
 
@@ -53,7 +53,7 @@ module _ (lenient : Bool) (k at : ℕ) (rs : List MandatoryRow) (s rows notes : 
     on notes′ = record { number = i notes′ .number; said = i notes′ .said; leaves = λ p. i notes′ .leaves p ∙ append-assoc rows (1 ∷ (at + h) ∷ n ∷ []) (leftOn took) }
 
     faulty :
-        (number : ℕ) → 1 ≤ number → (b : Bool)
+        (number : ℕ) → 6 ≤ number → (b : Bool)
         → Same (pick b (rowedOn h n took (notes ++ (k ∷ number ∷ []))) (stopped number k at rows notes)) (pick (not b) (answer number (k ∷ notes)) (saidOn took (notes ++ (k ∷ number ∷ [])))) rows (1 ∷ (at + h) ∷ n ∷ leftOn took)
     faulty number l true = on (notes ++ (k ∷ number ∷ []))
     faulty number l false = halted number l refl

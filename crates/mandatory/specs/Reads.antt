@@ -1,5 +1,5 @@
 -- Reading's answer, and what it leaves in the lent rows, by the definition of reading; the rows from a state on.
-use Prim.Native.Nat.{ℕ, suc, _+_}
+use Prim.Native.Nat.{ℕ, suc, _+_, _≤_}
 use mathlib.Core.Path.{_≡_}
 use mathlib.Core.List.{List, [], _∷_, _++_}
 use mathlib.Core.Bool.{Bool, false, not}
@@ -46,10 +46,11 @@ pub record Judges (a : Answer) (r : MandatoryRead) : Type 0 where
   pub answers : readAs r ≡ a
   pub tidy : Tidy (r .notes)
 
--- with the lent rows at exit
+-- with the lent rows at exit; a refusal before the rows has no notes
 pub record Reads (d : RowsRead) (r : MandatoryRead) (rows : List ℕ) : Type 0 where
   pub answers : readAs r ≡ d .said
   pub tidy : Tidy (r .notes)
+  pub bare : 1 ≤ numberOf (r .answer) → numberOf (r .answer) ≤ 5 → notesAs (r .notes) ≡ []
   pub rows-are : rows ≡ d .rows
 
 -- ---- the rows from a state on

@@ -13,10 +13,12 @@ use answers::entry_said;
 use answers::found_said;
 use answers::got_said;
 use answers::length_said;
+use answers::mandated_said;
 use answers::next_said;
 use answers::place_said;
 use answers::pushed_said;
 use answers::shown_said;
+use answers::wrote_said;
 use edits::clear_place;
 use edits::set_place;
 use elements::element::State;
@@ -27,6 +29,10 @@ use kept::kept_count;
 use kept::kept_get;
 use kept::kept_push;
 use length::generic_ie_length;
+use mandatory::by::decode_mandatory_ies_by;
+use mandatory::decode::decode_mandatory_ies;
+use mandatory_writing::by::encode_mandatory_ies_by;
+use mandatory_writing::encode::encode_mandatory_ies;
 use order::order_get;
 use reading::decode::decode_optional_ies;
 use reading::decode::decode_optional_ies_by;
@@ -44,7 +50,7 @@ ghost use lib.Dec.{eqb};
 ghost use Rattle.definitions.specs.Findings.{finding};
 ghost use Rattle.definitions.specs.Length.{unknownLength};
 ghost use Rattle.definitions.specs.Logs.{keptPush, keptCount, keptGet, keptClear, orderGet};
-ghost use Rattle.definitions.specs.Mandatory.{mandatoryRowsOf, firstBadMandatory};
+ghost use Rattle.definitions.specs.Mandatory.{mandatoryRowsOf, firstBadMandatory, mandatoryReading, mandatoryReadingBy, mandatoryWriting, mandatoryWritingBy};
 ghost use Rattle.definitions.specs.Reading.{reading, readingBy};
 ghost use Rattle.definitions.specs.Rows.{rowsOf, firstBad, index as indexOf, placeIn};
 ghost use Rattle.definitions.specs.Values.{showing, setting, clearing};
@@ -53,8 +59,9 @@ ghost use Rattle.kept.specs.Kept.{usedOf};
 ghost use Rattle.reading.specs.Decodes.{lentOf};
 ghost use Rattle.elements.specs.Nexts.{nextOf};
 ghost use Rattle.nas.specs.Entries.{orderPushBy};
+ghost use Rattle.answers.specs.Mandated.{MandatorySays};
 ghost use Rattle.answers.specs.Nexts.{stateBy, NextSays};
-ghost use Rattle.answers.specs.Says.{Says, ReadSays, EditSays, WriteSays, FindingSays, checkAnswer, placeAnswer, lengthAnswer};
+ghost use Rattle.answers.specs.Says.{Says, ReadSays, EditSays, WriteSays, RowsWriteSays, FindingSays, checkAnswer, placeAnswer, lengthAnswer};
 
 // The length of an unknown element from the octets from its first octet on: 0 and the length, or 1, cut short.
 #[no_mangle]
@@ -347,6 +354,84 @@ pub extern "C" fn nas_write_by<'a>(
             order_used,
             output,
         ),
+        values,
+    )
+}
+
+// Mandatory rows from the front of a part; lenient 0 is off, any other on. 0, the octets read and how many notes there are; 4 and
+// the first bad row; 3; 2 and 1; 6, 7, 8 or 9, the row and how many notes. The notes are row and number each, two numbers.
+#[no_mangle]
+pub extern "C" fn nas_read_mandatory(
+    part: &[u8],
+    table: &[u32],
+    lenient: u8,
+    rows: &mut [u32],
+    notes: &mut [u32; 64],
+    values: &mut [u64; 5],
+) -> u32
+    ensures { λ r. ⌜ MandatorySays (mandatoryReading (now (table .entry)) (not (eqb lenient 0)) (now (part .entry)) (now (rows .entry))) r (now (values .entry)) (now (values .exit)) (now (notes .entry)) (now (notes .exit)) (now (rows .exit)) ⌝ }
+{
+    mandated_said(
+        decode_mandatory_ies(part, table, lenient != 0, rows),
+        notes,
+        values,
+    )
+}
+
+// The same by table number, 0 for no row and 1 to 6 for the real tables; 5 for any other number.
+#[no_mangle]
+pub extern "C" fn nas_read_mandatory_by(
+    number: u32,
+    part: &[u8],
+    lenient: u8,
+    rows: &mut [u32],
+    notes: &mut [u32; 64],
+    values: &mut [u64; 5],
+) -> u32
+    ensures { λ r. ⌜ MandatorySays (mandatoryReadingBy number (not (eqb lenient 0)) (now (part .entry)) (now (rows .entry))) r (now (values .entry)) (now (values .exit)) (now (notes .entry)) (now (notes .exit)) (now (rows .exit)) ⌝ }
+{
+    mandated_said(
+        decode_mandatory_ies_by(number, part, lenient != 0, rows),
+        notes,
+        values,
+    )
+}
+
+// Mandatory rows one after the other, from the lent rows, the received and the set octets: 0 and the octets written; 4 and the
+// first bad row; 3; 2 and 1; 11 and 3; 10 and the lowest row; 12 and the octets needed.
+#[no_mangle]
+pub extern "C" fn nas_write_mandatory<'a>(
+    table: &[u32],
+    rows: &[u32],
+    received: &'a [u8],
+    set: &'a [u8],
+    set_used: usize,
+    output: &mut [u8],
+    values: &mut [u64; 5],
+) -> u32
+    ensures { λ r. ⌜ RowsWriteSays (mandatoryWriting (now (table .entry)) (now (rows .entry)) (now (received .entry)) (usedOf (now (set .entry)) «set_used») (now (output .entry))) r (now (values .entry)) (now (values .exit)) (now (output .exit)) ⌝ }
+{
+    wrote_said(
+        encode_mandatory_ies(table, rows, received, set, set_used, output),
+        values,
+    )
+}
+
+// The same by table number, 0 for no row and 1 to 6 for the real tables; 5 for any other number.
+#[no_mangle]
+pub extern "C" fn nas_write_mandatory_by<'a>(
+    number: u32,
+    rows: &[u32],
+    received: &'a [u8],
+    set: &'a [u8],
+    set_used: usize,
+    output: &mut [u8],
+    values: &mut [u64; 5],
+) -> u32
+    ensures { λ r. ⌜ RowsWriteSays (mandatoryWritingBy number (now (rows .entry)) (now (received .entry)) (usedOf (now (set .entry)) «set_used») (now (output .entry))) r (now (values .entry)) (now (values .exit)) (now (output .exit)) ⌝ }
+{
+    wrote_said(
+        encode_mandatory_ies_by(number, rows, received, set, set_used, output),
         values,
     )
 }
