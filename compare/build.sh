@@ -4,7 +4,7 @@
 # The families of calls that libnas.a has besides the pieces and reading, of linked-editing, linked-writing,
 # linked-mandatory, linked-findings (Cargo.toml), with blanks between them. A family is added when libnas.a has its calls; the
 # cases of one that is not here are left out, and the comparison says how many.
-families="linked-editing linked-writing linked-findings"
+families="linked-editing linked-writing linked-findings linked-mandatory"
 
 if ! command -v cargo > /dev/null; then
   echo "cargo is not there: the comparison is a Rust project and needs a Rust toolchain (1.88 or later)." >&2
