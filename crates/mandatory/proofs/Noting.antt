@@ -1,11 +1,11 @@
 -- A note more at the end of those that are used: what is behind it is still zero.
 -- By the array's front and what is behind it.
-use Prim.Native.Nat.{ℕ, suc, _+_, _-_, _*_, _≤_, _<_}
+use Prim.Native.Nat.{ℕ, suc, _+_, _-_, _≤_, _<_}
 use native.Mathlib.Omega.{arith}
 use native.Mathlib.Numerals.{add-one}
 use mathlib.Core.Path.{_≡_, refl, ap, sym, _∙_}
 use mathlib.Core.List.{List, [], _∷_, _++_, append-nil}
-use lib.ListN.{length, take, drop, replicate, length-set}
+use lib.ListN.{take, drop, replicate, length-set}
 use lib.Seq.{take-suc-set, drop-set-lt, drop-drop}
 use Rattle.mandatory.specs.Notes.{note, noNotes, flat, notesAs, withNote, withFault, Tidy}
 use Rattle.mandatory.specs.Reads.{noteOf}
@@ -24,11 +24,6 @@ pub flat-append : (a b : List Note) → flat (a ++ b) ≡ flat a ++ flat b
 unfolding flat
 flat-append [] b = refl
 flat-append (n ∷ a) b = ap (λ (s : List ℕ). n .row ∷ n .number ∷ s) (flat-append a b)
-
-pub length-flat : (ns : List Note) → length (flat ns) ≡ 2 * length ns
-unfolding flat
-length-flat [] = refl
-length-flat (n ∷ ns) = let i = length-flat ns in omega arith
 
 -- what a fault noted leaves
 pub record Noted (n : Notes) (k : ℕ) (f : Fault) : Type 0 where
