@@ -1,5 +1,5 @@
-//! Records a sample of the oracle's answers to writings, edits, mandatory rows and findings, into recorded-writing.bin, and the
-//! writings of it, kind 1, into crates/replay_writing/stdin too. src/recorded.rs describes both lists.
+//! Records a sample of the oracle's answers to writings, edits, mandatory rows and findings, into recorded-writing.bin, and its
+//! writings and findings, kinds 1 and 6, into crates/replay_writing/stdin too. src/recorded.rs describes both lists.
 
 use std::collections::BTreeMap;
 use std::fs;
@@ -27,7 +27,7 @@ struct Recorder {
     right: Judged<ByRust>,
     random: Random,
     list: Writer,
-    writings: Writer,
+    replayed: Writer,
     answers: BTreeMap<(&'static str, u32, u64), usize>,
 }
 
@@ -38,7 +38,7 @@ fn main() -> ExitCode {
         tables,
         random: Random::new(1),
         list: Writer::default(),
-        writings: Writer::default(),
+        replayed: Writer::default(),
         answers: BTreeMap::new(),
     };
     recorder.examples();
@@ -48,7 +48,7 @@ fn main() -> ExitCode {
         recorder.numbered_table();
         recorder.mandatory_rows();
     }
-    let lists = [("recorded-writing.bin", &recorder.list), ("../crates/replay_writing/stdin", &recorder.writings)];
+    let lists = [("recorded-writing.bin", &recorder.list), ("../crates/replay_writing/stdin", &recorder.replayed)];
     for (name, list) in lists {
         let path = PathBuf::from(env!("CARGO_MANIFEST_DIR")).join(name);
         let octets = list.list();
@@ -102,8 +102,8 @@ impl Recorder {
         let (outcome, wanted) = self.wanted(call);
         if wanted {
             self.list.case(&[(call, &outcome)]);
-            if matches!(call, Call::Write { .. } | Call::WriteBy { .. }) {
-                self.writings.case(&[(call, &outcome)]);
+            if matches!(call, Call::Write { .. } | Call::WriteBy { .. } | Call::Findings { .. }) {
+                self.replayed.case(&[(call, &outcome)]);
             }
         }
     }

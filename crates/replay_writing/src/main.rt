@@ -1,5 +1,8 @@
-// Runs the recorded list on standard input through our writing, and prints how many cases there are of each number, how many
+// Runs the recorded list on standard input through our writing and our findings, and prints how many cases there are of each number, how many
 // answers are the recorded ones in number, value and all lent output, and each case that is not. README.md has the format.
+use findings::Found;
+use findings::Log;
+use findings::optional_ie_order_findings;
 use octets::Cursor;
 use octets::Four;
 use octets::Pair;
@@ -12,6 +15,14 @@ use writing::encode::encode_optional_ies_by;
 
 // What lent output holds before a case.
 const LENT: u8 = 0xa5;
+
+const LENT_NUMBER: u32 = 0xa5a5_a5a5;
+
+// The kind of a case that asks for findings; any other is a writing.
+const FINDINGS: u8 = 6;
+
+// Where the recorded answers are counted: behind all numbers.
+const SAME: usize = 256;
 
 // No list is longer.
 const MOST: usize = 16_777_216;
@@ -27,7 +38,9 @@ struct Case {
     kept_at: usize,
     order_at: usize,
     output_at: usize,
+    said_at: usize,
     written_at: usize,
+    end: usize,
 }
 
 fn octet(list: &[u8], at: usize) -> u8 {
@@ -104,11 +117,7 @@ fn answer_end(list: &[u8], at: usize) -> usize {
     after(after(at, 2), 8 * (octet(list, after(at, 1)) as usize))
 }
 
-fn said_at(c: Case) -> usize {
-    after(c.output_at, 4)
-}
-
-fn case_at(list: &[u8], at: usize) -> Case {
+fn writing_at(list: &[u8], at: usize) -> Case {
     let table_at = after(at, 1);
     let rows_at = numbers_end(list, after(table_at, 1));
     let received_at = numbers_end(list, rows_at);
@@ -116,6 +125,8 @@ fn case_at(list: &[u8], at: usize) -> Case {
     let kept_at = used_end(list, set_at);
     let order_at = used_end(list, kept_at);
     let output_at = used_end(list, order_at);
+    let said_at = after(output_at, 4);
+    let written_at = answer_end(list, said_at);
     Case {
         table_at: table_at,
         rows_at: rows_at,
@@ -124,11 +135,50 @@ fn case_at(list: &[u8], at: usize) -> Case {
         kept_at: kept_at,
         order_at: order_at,
         output_at: output_at,
-        written_at: answer_end(list, after(output_at, 4)),
+        said_at: said_at,
+        written_at: written_at,
+        end: string_end(list, written_at),
     }
 }
 
+// Findings have no rows and no octets but those of the logs.
+fn findings_at(list: &[u8], at: usize) -> Case {
+    let table_at = after(at, 1);
+    let kept_at = numbers_end(list, after(table_at, 1));
+    let order_at = used_end(list, kept_at);
+    let output_at = used_end(list, order_at);
+    let said_at = after(output_at, 2);
+    let written_at = answer_end(list, said_at);
+    Case {
+        table_at: table_at,
+        rows_at: at,
+        received_at: at,
+        set_at: at,
+        kept_at: kept_at,
+        order_at: order_at,
+        output_at: output_at,
+        said_at: said_at,
+        written_at: written_at,
+        end: numbers_end(list, written_at),
+    }
+}
+
+fn case_at(list: &[u8], at: usize) -> Case {
+    if octet(list, at) == FINDINGS {
+        return findings_at(list, at);
+    }
+    writing_at(list, at)
+}
+
 fn fill(out: &mut [u8], x: u8) {
+    let mut i = 0;
+    while i < out.len() {
+        out[i] = x;
+        i += 1;
+    }
+}
+
+fn fill_numbers(out: &mut [u32], x: u32) {
     let mut i = 0;
     while i < out.len() {
         out[i] = x;
@@ -290,7 +340,7 @@ fn judge<'a>(
 ) -> bool {
     fill(output, LENT);
     let said = write(list, c, table, rows, received, set, kept, order, output);
-    let is_said = said_is(list, said_at(c), said);
+    let is_said = said_is(list, c.said_at, said);
     let is_output = output_is(list, c.written_at, output);
     is_said && is_output
 }
@@ -394,11 +444,119 @@ fn run_case(list: &[u8], c: Case) -> bool {
     )
 }
 
+// ---- findings
+
+fn log_is(list: &[u8], at: usize, log: Log) -> bool {
+    match log {
+        Log::Order => one_is(list, at, 11, 1),
+        Log::Kept => one_is(list, at, 11, 2),
+    }
+}
+
+fn found_is(list: &[u8], at: usize, found: Found) -> bool {
+    match found {
+        Found::Findings(n) => one_is(list, at, 0, n as u64),
+        Found::BadTable(row) => one_is(list, at, 4, row as u64),
+        Found::TooLong => none_is(list, at, 3),
+        Found::Malformed(log) => log_is(list, at, log),
+        Found::NoRoom => one_is(list, at, 2, 4),
+    }
+}
+
 fn cell(s: &[u32], at: usize) -> u32 {
     if at < s.len() {
         return s[at];
     }
     0
+}
+
+// The recorded number there, or what was lent behind them.
+fn recorded_or_lent(list: &[u8], at: usize, is_recorded: bool) -> u32 {
+    if is_recorded {
+        return four(list, at);
+    }
+    LENT_NUMBER
+}
+
+// Whether lent findings hold numbers, and what they held before behind them.
+fn numbers_are(list: &[u8], at: usize, s: &[u32]) -> bool {
+    let n = counted(list, at);
+    let mut p = after(at, 2);
+    let mut i = 0;
+    while i < s.len() {
+        if cell(s, i) != recorded_or_lent(list, p, i < n) {
+            return false;
+        }
+        p = after(p, 4);
+        i += 1;
+    }
+    n <= s.len()
+}
+
+fn judge_findings(
+    list: &[u8],
+    c: Case,
+    table: &[u32],
+    kept: &[u8],
+    order: &[u8],
+    findings: &mut [u32],
+) -> bool {
+    let kept_used = used(list, c.kept_at);
+    let order_used = used(list, c.order_at);
+    fill_numbers(findings, LENT_NUMBER);
+    let found = optional_ie_order_findings(table, kept, kept_used, order, order_used, findings);
+    let is_found = found_is(list, c.said_at, found);
+    let is_written = numbers_are(list, c.written_at, findings);
+    is_found && is_written
+}
+
+fn find_fronts(
+    list: &[u8],
+    c: Case,
+    table: &[u32],
+    kept: &[u8],
+    order: &[u8],
+    findings: &mut [u32],
+) -> bool {
+    let cells = counted(list, after(c.table_at, 1));
+    let n = counted(list, c.output_at);
+    if cells > table.len() {
+        return false;
+    }
+    if n > findings.len() {
+        return false;
+    }
+    judge_findings(list, c, &table[..cells], kept, order, &mut findings[..n])
+}
+
+fn run_findings(list: &[u8], c: Case) -> bool {
+    let mut table = [0u32; 64];
+    let mut kept = [0u8; 256];
+    let mut order = [0u8; 66000];
+    let mut findings = [0u32; 256];
+    if !(fits(list, c.kept_at, 256) && fits(list, c.order_at, 66000)) {
+        return false;
+    }
+    get_numbers(list, after(c.table_at, 1), &mut table);
+    get_string(list, c.kept_at, &mut kept);
+    get_string(list, c.order_at, &mut order);
+    find_fronts(
+        list,
+        c,
+        &table,
+        part(&kept, 0, string_len(list, c.kept_at)),
+        part(&order, 0, string_len(list, c.order_at)),
+        &mut findings,
+    )
+}
+
+// ---- all cases
+
+fn run_any(list: &[u8], at: usize, c: Case) -> bool {
+    if octet(list, at) == FINDINGS {
+        return run_findings(list, c);
+    }
+    run_case(list, c)
 }
 
 // One more of a count.
@@ -419,7 +577,7 @@ fn print_count(text: &[u8], n: u32) {
 
 fn report(counts: &mut [u32], is_same: bool, k: u32) {
     if is_same {
-        bump(counts, 15);
+        bump(counts, SAME);
     } else {
         print_count(b"another answer to case ", k);
     }
@@ -432,9 +590,9 @@ fn run_list(list: &[u8], counts: &mut [u32]) {
     let mut k = 0u32;
     while k < n {
         let c = case_at(list, at);
-        bump(counts, octet(list, said_at(c)) as usize);
-        report(counts, run_case(list, c), k);
-        at = string_end(list, c.written_at);
+        bump(counts, octet(list, c.said_at) as usize);
+        report(counts, run_any(list, at, c), k);
+        at = c.end;
         k += 1;
     }
 }
@@ -449,11 +607,11 @@ fn print_counts(cases: u32, counts: &[u32]) {
     print_count(b"refusal 11 ", cell(counts, 11));
     print_count(b"refusal 12 ", cell(counts, 12));
     print_count(b"cases ", cases);
-    print_count(b"recorded answers ", cell(counts, 15));
+    print_count(b"recorded answers ", cell(counts, SAME));
 }
 
 fn run_all(list: &[u8]) {
-    let mut counts = [0u32; 16];
+    let mut counts = [0u32; 257];
     run_list(list, &mut counts);
     print_counts(four(list, 0), &counts);
 }

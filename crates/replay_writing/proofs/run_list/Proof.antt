@@ -23,9 +23,6 @@ loop-holds c = refl
 case-at-requires : tie.Need-case-at-requires Inv-loop μ-loop
 case-at-requires c κs = search needs
 
-said-at-requires : tie.Need-said-at-requires Inv-loop μ-loop
-said-at-requires c κs = search needs
-
 octet-requires : tie.Need-octet-requires Inv-loop μ-loop
 octet-requires c κs = search needs
 
@@ -35,14 +32,11 @@ cast-bump c = search needs
 bump-requires : tie.Need-bump-requires Inv-loop μ-loop
 bump-requires c κs = search needs
 
-run-case-requires : tie.Need-run-case-requires Inv-loop μ-loop
-run-case-requires c κs = search needs
+run-any-requires : tie.Need-run-any-requires Inv-loop μ-loop
+run-any-requires c κs = search needs
 
 report-requires : tie.Need-report-requires Inv-loop μ-loop
 report-requires c κs = search needs
-
-string-end-requires : tie.Need-string-end-requires Inv-loop μ-loop
-string-end-requires c κs = search needs
 
 add-k : tie.Need-add-k Inv-loop μ-loop
 add-k c = search needs
@@ -68,13 +62,11 @@ run-list-spec =
     four-requires
     loop-holds
     case-at-requires
-    said-at-requires
     octet-requires
     cast-bump
     bump-requires
-    run-case-requires
+    run-any-requires
     report-requires
-    string-end-requires
     add-k
     loop-less
     loop-again
