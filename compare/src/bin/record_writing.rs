@@ -1,5 +1,5 @@
-//! Records a sample of the oracle's answers to writings, edits, mandatory rows and findings, into recorded-writing.bin.
-//! src/recorded.rs describes the list.
+//! Records a sample of the oracle's answers to writings, edits, mandatory rows and findings, into recorded-writing.bin, and its
+//! writings and findings, kinds 1 and 6, into crates/replay_writing/stdin too. src/recorded.rs describes both lists.
 
 use std::collections::BTreeMap;
 use std::fs;
@@ -27,6 +27,7 @@ struct Recorder {
     right: Judged<ByRust>,
     random: Random,
     list: Writer,
+    replayed: Writer,
     answers: BTreeMap<(&'static str, u32, u64), usize>,
 }
 
@@ -37,6 +38,7 @@ fn main() -> ExitCode {
         tables,
         random: Random::new(1),
         list: Writer::default(),
+        replayed: Writer::default(),
         answers: BTreeMap::new(),
     };
     recorder.examples();
@@ -46,13 +48,16 @@ fn main() -> ExitCode {
         recorder.numbered_table();
         recorder.mandatory_rows();
     }
-    let path = PathBuf::from(env!("CARGO_MANIFEST_DIR")).join("recorded-writing.bin");
-    let list = recorder.list.list();
-    if let Err(error) = fs::write(&path, &list) {
-        eprintln!("{} cannot be written: {error}", path.display());
-        return ExitCode::FAILURE;
+    let lists = [("recorded-writing.bin", &recorder.list), ("../crates/replay_writing/stdin", &recorder.replayed)];
+    for (name, list) in lists {
+        let path = PathBuf::from(env!("CARGO_MANIFEST_DIR")).join(name);
+        let octets = list.list();
+        if let Err(error) = fs::write(&path, &octets) {
+            eprintln!("{} cannot be written: {error}", path.display());
+            return ExitCode::FAILURE;
+        }
+        println!("{name}: {} cases, {} octets", list.cases(), octets.len());
     }
-    println!("{} cases, {} octets", recorder.list.cases(), list.len());
     for ((name, number, which), count) in &recorder.answers {
         match number {
             2 | 11 => println!("  {name}, answer {number} ({which}): {count}"),
@@ -97,6 +102,9 @@ impl Recorder {
         let (outcome, wanted) = self.wanted(call);
         if wanted {
             self.list.case(&[(call, &outcome)]);
+            if matches!(call, Call::Write { .. } | Call::WriteBy { .. } | Call::Findings { .. }) {
+                self.replayed.case(&[(call, &outcome)]);
+            }
         }
     }
 
