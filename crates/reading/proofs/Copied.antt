@@ -1,4 +1,4 @@
--- The rows of a part of which the table says all, found among zeros and copied out.
+-- The rows of a part, found among zeros, and its logs, copied out.
 -- Its elements entered into zeros are the rows of its places; as many are copied as the table has places.
 use Prim.Native.Nat.{ℕ, zero, suc, _*_, _≤_}
 use native.Mathlib.Omega.{arith}
@@ -6,16 +6,17 @@ use mathlib.Core.Path.{_≡_, refl, ap, sym, _∙_}
 use mathlib.Core.List.{List, _∷_}
 use mathlib.Core.Bool.{Bool, true, false}
 use mathlib.Core.Option.{none, some}
-use lib.ListN.{length, take, replicate}
+use lib.ListN.{length, take, drop, replicate, length-append}
 use lib.Seq.{take-append-seam}
 use Rattle.definitions.specs.Basic.{pick, over}
 use Rattle.definitions.specs.Rows.{Row, firstBad}
 use Rattle.definitions.specs.Elements.{Element, Parted, elements, cutShort, elementsOf, parted}
-use Rattle.definitions.specs.Logs.{plainFrom}
+use Rattle.definitions.specs.Logs.{plainFrom, keptOf, entriesOf}
 use Rattle.definitions.specs.Reading.{placeRows}
-use Rattle.reading.specs.Fills.{enteredAll}
+use Rattle.reading.specs.Fills.{enteredAll, Written}
 use Rattle.reading.specs.Plains.{plainIn, plainRows, Plainly}
 use Rattle.reading.proofs.Entered.{all-entered, rows-length}
+use Rattle.reading.proofs.Filling.{Entered}
 
 zeros-over : (m w : ℕ) → m ≤ w → over (replicate m 0) (replicate w 0) ≡ replicate w 0
 unfolding over
@@ -26,6 +27,11 @@ zeros-over (suc m) (suc w) h = ap (λ (x : List ℕ). 0 ∷ x) (zeros-over m w (
 front-is : (a b : List ℕ) (m : ℕ) → length a ≡ m → take m (over a b) ≡ a
 unfolding over
 front-is a b m e = rw (← e) (take-append-seam a _)
+
+-- what is used of a buffer is within it
+pub used-within : (a b : List ℕ) {k : ℕ} {c : List ℕ} → k ≡ length a → c ≡ over a b → k ≤ length c
+unfolding over
+used-within a b e q = omega (arith, e, ap length q ∙ length-append a (drop (length a) b))
 
 module _ (t : List Row) (passes : firstBad t ≡ none) (start : ℕ) (option : Bool) (part : List ℕ) (w : ℕ) (fits : 3 * length t ≤ w) where
   copied : (es : List Element) → parted t start option part ≡ elements es → take (3 * length t) (enteredAll t es (replicate w 0)) ≡ placeRows t es
@@ -60,3 +66,13 @@ module _ (t : List Row) (passes : firstBad t ≡ none) (start : ℕ) (option : B
       by : (o : Parted) → none ≡ plainRows t 0 o (replicate w 0) → false ≡ plainIn t 0 o
       by (elements es) f = go (plainFrom t 0 es) _ f
       by (cutShort a x m) f = refl
+
+  -- every element entered among zeros, with the octets used of each log, and copied out
+  pub written : (n : ℕ) → n ≡ 3 * length t → {k o : ℕ} {rows kept order kept₀ order₀ found aside entries rows′ kept′ order′ : List ℕ} → Entered t p k o (replicate w 0) kept₀ order₀ found aside entries
+      → rows′ ≡ over (take n found) rows → kept′ ≡ over (take k aside) kept → order′ ≡ over (take o entries) order → Written t (elementsOf p) rows kept order rows′ kept′ order′
+  written n n-is {k} {o} {rows} {kept} {order} {kept₀} {order₀} e a b c =
+      record {
+        rows-are = a ∙ ap (λ (x : List ℕ). over x rows) (rw (n-is, e .rows-are) (copied (elementsOf p) (e .decodes)));
+        kept-is = b ∙ ap (λ (x : List ℕ). over x kept) (rw (e .kept-is) (front-is (keptOf (elementsOf p)) kept₀ k (sym (e .kept-used))));
+        order-is = c ∙ ap (λ (x : List ℕ). over x order) (rw (e .order-is) (front-is (entriesOf (elementsOf p)) order₀ o (sym (e .order-used))));
+      }

@@ -18,10 +18,11 @@ use Rattle.definitions.proofs.RowLaws.{both}
 use Rattle.definitions.proofs.Readings.{read-long, read-rows, read-cut, read-kept, read-order, read-done}
 use Rattle.rows.specs.Indexed.{Indexed}
 use Rattle.reading.specs.Measures.{measuredFrom, noTally}
-use Rattle.reading.specs.Fills.{Ready, Written}
+use Rattle.reading.specs.Fills.{exact, Ready, Written}
 use Rattle.reading.specs.Plains.{plainIn, Plainly}
 use Rattle.reading.specs.Decodes.{decodedAs, lentOf, Reads}
 use Rattle.reading.specs.declared.decode.Decoded.{Decoded}
+use Rattle.reading.proofs.Filling.{Entered}
 use Rattle.reading.specs.declared.decode.Room.{Room}
 use Rattle.reading.specs.declared.measure.Measured.{Measured}
 
@@ -42,13 +43,22 @@ pub record Needs (t : List Row) (p : Parted) (k o : ℕ) : Type 0 where
   pub order : entriesOf (elementsOf p) ≡ orderOf t (elementsOf p)
   pub entries : o ≡ length (entriesOf (elementsOf p))
 
-pub needed : (t : List Row) (p : Parted) → plainIn t 0 p ≡ false → {k o : ℕ} → Measured.Needs k o ≡ measuredFrom noTally p → Needs t p k o
+-- by measuring, and by entering
+entries-are : (t : List Row) (p : Parted) → plainIn t 0 p ≡ false → p ≡ elements (elementsOf p) → entriesOf (elementsOf p) ≡ orderOf t (elementsOf p)
 unfolding elementsOf orderOf
+entries-are t (elements es) f e = rw f
+entries-are t (cutShort a x n) f e = let z : _≡_ {A = ℕ} 0 1 = cc in absurd (omega arith)
+
+pub needed : (t : List Row) (p : Parted) → plainIn t 0 p ≡ false → {k o : ℕ} → Measured.Needs k o ≡ measuredFrom noTally p → Needs t p k o
+unfolding elementsOf
 needed t (cutShort a x n) f e = let z : _≡_ {A = ℕ} 0 1 = cc in absurd (omega arith)
 needed t (elements es) f {k = k} {o = o} e =
     let a : k ≡ 0 + length (keptOf es) = cc in
     let b : o ≡ 0 + length (entriesOf es) = cc in
-    record { decodes = refl; kept = omega arith; order = rw f; entries = omega arith }
+    record { decodes = refl; kept = omega arith; order = entries-are t (elements es) f refl; entries = omega arith }
+
+pub needed-by : {t : List Row} {p : Parted} {k o : ℕ} {rows kept order rows′ kept′ order′ : List ℕ} → plainIn t 0 p ≡ false → Entered t p k o rows kept order rows′ kept′ order′ → Needs t p k o
+needed-by {t = t} {p = p} f e = record { decodes = e .decodes; kept = e .kept-used; order = entries-are t p f (e .decodes); entries = e .order-used }
 
 pub cut-is : (p : Parted) {a x n : ℕ} → Measured.Cut a x n ≡ measuredFrom noTally p → p ≡ cutShort a x n
 cut-is (elements es) e = let z : _≡_ {A = ℕ} 0 1 = cc in absurd (omega arith)
@@ -114,8 +124,8 @@ module _ (table : List ℕ) (start : ℕ) (option : Bool) (part rows kept order 
     no-rows h = refused {l = l} (read-rows table start option part l passes short h) refl
 
     module _ (room : 3 * length t ≤ length rows) where
-      pub cut-short : {a x n : ℕ} → Measured.Cut a x n ≡ measuredFrom noTally p → Reads r (Decoded.CutShort a x n) rows kept order
-      cut-short e = refused {l = l} (read-cut table start option part l passes short room (cut-is p e)) refl
+      pub cut-short : {a x n : ℕ} → p ≡ cutShort a x n → Reads r (Decoded.CutShort a x n) rows kept order
+      cut-short e = refused {l = l} (read-cut table start option part l passes short room e) refl
 
       -- what is left where reading is done
       answered : {k o : ℕ} {rows′ kept′ order′ : List ℕ} → let es : List Element = elementsOf p in p ≡ elements es → k ≡ length (keptOf es) → o ≡ length (orderOf t es) → k ≤ length kept → o ≤ length order
@@ -138,10 +148,7 @@ module _ (table : List ℕ) (start : ℕ) (option : Bool) (part rows kept order 
           let o : orderOf t (elementsOf p) ≡ [] = plain-order t p (sym (w .is)) in
           answered (plain-decodes t p (sym (w .is))) (rw k) (rw o) (omega arith) (omega arith) (w .rows-are) (rw k) (rw o)
 
-      module _ (other : plainIn t 0 p ≡ false) (k o : ℕ) (m : Measured.Needs k o ≡ measuredFrom noTally p) where
-        n : Needs t p k o
-        n = needed t p other m
-
+      module _ (k o : ℕ) (n : Needs t p k o) where
         abbrev es : List Element
         es = elementsOf p
 
@@ -159,10 +166,8 @@ module _ (table : List ℕ) (start : ℕ) (option : Bool) (part rows kept order 
                   indexed = i;
                   passes = passes;
                   short = short;
-                  decodes = n .decodes;
                   rows-room = room;
-                  kept-room = omega (arith, n .kept);
-                  order-room = omega (arith, n .entries);
+                  room = exact (n .decodes) (omega (arith, n .kept)) (omega (arith, n .entries));
                 }
 
             pub done : {rows′ kept′ order′ : List ℕ} → Written t es rows kept order rows′ kept′ order′ → Reads r (Decoded.Done k o) rows′ kept′ order′

@@ -1,6 +1,6 @@
 -- The filling loop: what is left to enter gives, from the present rows and logs, what the whole part gives from those at entry.
--- A step enters the element in front; a log's pieces follow one another.
-use Prim.Native.Nat.{ℕ, _+_, _*_, _≤_, _<_, _^_}
+-- A step enters the element in front; a log's pieces follow one another, and the room for the rest stays.
+use Prim.Native.Nat.{ℕ, _+_, _*_, _-_, _≤_, _<_, _^_}
 use native.Mathlib.Omega.{arith}
 use mathlib.Core.Path.{_≡_, refl, ap, subst, sym, _∙_}
 use mathlib.Core.List.{List, [], _∷_, _++_}
@@ -13,10 +13,14 @@ use Rattle.definitions.specs.Length.{header}
 use Rattle.definitions.specs.Elements.{Verdict, accepted, unknown, malformed, repeated, outOfSequence, isAccepted, Element as DefElement, ieiAt, Parted, elements, cutShort, elementsOf, before, parted}
 use Rattle.definitions.specs.Logs.{keptEntry, keptOf, entriesOf, placedOf, orderEntry}
 use Rattle.definitions.proofs.Lists.{over-next, over-none, length-overAt}
+use Rattle.definitions.proofs.Logs.{entry-length}
+use Rattle.definitions.proofs.LogLaws.{leb-room}
 use Rattle.order.specs.Order.{placedAs}
 use Rattle.order.specs.declared.Placed.{Placed}
+use Rattle.order.specs.declared.IgnoredIeReason.{IgnoredIeReason}
 use Rattle.elements.specs.Steps.{placedFor, elementOf, metOf}
-use Rattle.reading.specs.Fills.{rowEntered, rowBy, RowFits, RowFitsBy, keptOfFound, entryBy, noteBy, enteredAll, Ready, Filled}
+use Rattle.reading.specs.Fills.{rowEntered, rowBy, RowFits, RowFitsBy, keptOfFound, entryBy, noteBy, enteredAll, Outcome, done, cut, filledFrom, outcome, Room, exact, twice, Ready}
+use Rattle.reading.specs.declared.measure.Measured.{Measured}
 use Rattle.elements.specs.Nexts.{startState}
 use Rattle.elements.specs.declared.element.State.{State}
 use Rattle.elements.specs.declared.element.Element.{Element}
@@ -73,96 +77,127 @@ entered-long t e rows = by (e .placed)
     by Placed.Unknown f = refl
     by (Placed.Ignored r) f = refl
 
+-- ---- an element in front of a part
+
+-- an element's entries in the logs
+abbrev entry : DefElement → List ℕ
+entry d = entryBy (d .octets) (placedFor (ieiAt d) (d .verdict))
+
+abbrev note : DefElement → List ℕ
+note d = noteBy (placedFor (ieiAt d) (d .verdict))
+
+same-done : {a a′ b b′ : ℕ} {c c′ d d′ e e′ : List ℕ} → a ≡ a′ → b ≡ b′ → c ≡ c′ → d ≡ d′ → e ≡ e′ → done a b c d e ≡ done a′ b′ c′ d′ e′
+same-done f g h i j = rw (f, g, h, i, j)
+
+-- entering it, and what is behind it from there
+front : (t : List Row) (d : DefElement) (v : Parted) (k o : ℕ) (rows kept order : List ℕ) → k + length (entry d) ≤ length kept → o + length (note d) ≤ length order
+    → filledFrom t v (k + length (entry d)) (o + length (note d)) (rowEntered t (elementOf d) rows) (overAt k (entry d) kept) (overAt o (note d) order) ≡ filledFrom t (before d v) k o rows kept order
+unfolding before enteredAll
+front t d (elements es) k o rows kept order f g =
+    same-done (omega (arith, ap length (kept-cons d es) ∙ length-append (entry d) (keptOf es))) (omega (arith, ap length (notes-cons d es) ∙ length-append (note d) (entriesOf es))) refl
+    (over-next k (entry d) (keptOf es) kept f ∙ ap (λ (x : List ℕ). overAt k x kept) (sym (kept-cons d es)))
+    (over-next o (note d) (entriesOf es) order g ∙ ap (λ (x : List ℕ). overAt o x order) (sym (notes-cons d es)))
+front t d (cutShort a x n) k o rows kept order f g = refl
+
+-- the room behind it
+record Behind (v : Parted) (ke no left k o kept order : ℕ) : Type 0 where
+  fits-kept : k + ke ≤ kept
+  fits-order : o + no ≤ order
+  room : Room v left (k + ke) (o + no) kept order
+
+room-behind : (d : DefElement) (v : Parted) {p : Parted} (left len k o kept order : ℕ) → p ≡ before d v → length (entry d) ≤ 2 * len → length (note d) ≤ 2 * len → len ≤ left
+    → Room p left k o kept order → Behind v (length (entry d)) (length (note d)) (left - len) k o kept order
+unfolding before elementsOf
+room-behind d v left len k o kept order e f g h (twice a b) = record { fits-kept = omega arith; fits-order = omega arith; room = twice (omega arith) (omega arith) }
+room-behind d (elements es) left len k o kept order e f g h (exact c a b) =
+    let a′ : k + length (keptOf (d ∷ es)) ≤ kept = rw e at a in
+    let b′ : o + length (entriesOf (d ∷ es)) ≤ order = rw e at b in
+    let l = ap length (kept-cons d es) ∙ length-append (entry d) (keptOf es) in
+    let m = ap length (notes-cons d es) ∙ length-append (note d) (entriesOf es) in
+    record { fits-kept = omega arith; fits-order = omega arith; room = exact refl (omega arith) (omega arith) }
+room-behind d (cutShort x y z) left len k o kept order e f g h (exact c a b) =
+    let q : cutShort x y z ≡ elements _ = sym e ∙ c in
+    let z′ : _≡_ {A = ℕ} 0 1 = cc in
+    absurd (omega arith)
+
+-- no entry takes more than twice the element's octets
+entry-short : (o : List ℕ) (p : Placed) → 1 ≤ length o → length (entryBy o p) ≤ 2 * length o
+entry-short o (Placed.Known i) h = omega arith
+entry-short o Placed.Unknown h = omega (arith, entry-length o, leb-room (length o) h)
+entry-short o (Placed.Ignored r) h = omega (arith, entry-length o, leb-room (length o) h)
+
+note-short : (p : Placed) → length (noteBy p) ≤ 2
+unfolding orderEntry
+note-short (Placed.Known i) = omega arith
+note-short Placed.Unknown = omega arith
+note-short (Placed.Ignored IgnoredIeReason.Malformed) = omega arith
+note-short (Placed.Ignored IgnoredIeReason.Repeated) = omega arith
+note-short (Placed.Ignored IgnoredIeReason.OutOfSequence) = omega arith
+
 -- ---- the invariant
 
 module _ (table index : List ℕ) (start : ℕ) (option : Bool) (part rows₀ kept₀ order₀ : List ℕ) where
   abbrev t : List Row
   t = rowsOf table
 
-  abbrev whole : List DefElement
-  whole = elementsOf (parted t start option part)
+  abbrev pub whole : Outcome
+  whole = filledFrom t (parted t start option part) 0 0 rows₀ kept₀ order₀
 
   pub record Filling (s : State) (k o : ℕ) (rows kept order : List ℕ) : Type 0 where
-    pub left : List DefElement
-    pub reads : from t start option part s ≡ elements left
-    pub within : s .at ≤ length part
+    pub left : ℕ
+    pub left-is : s .at + left ≡ length part
     pub low : s .seen .low < 2 ^ 64
     pub rows-long : length rows ≡ length rows₀
     pub kept-long : length kept ≡ length kept₀
     pub order-long : length order ≡ length order₀
-    pub kept-room : k + length (keptOf left) ≤ length kept
-    pub order-room : o + length (entriesOf left) ≤ length order
-    pub rows-then : enteredAll t left rows ≡ enteredAll t whole rows₀
-    pub kept-then : overAt k (keptOf left) kept ≡ over (keptOf whole) kept₀
-    pub order-then : overAt o (entriesOf left) order ≡ over (entriesOf whole) order₀
+    pub room : Room (from t start option part s) left k o (length kept₀) (length order₀)
+    pub tells : filledFrom t (from t start option part s) k o rows kept order ≡ whole
+
+  -- the same at equal numbers and lists
+  pub moved : {s : State} {k k′ o o′ : ℕ} {rows rows′ kept kept′ order order′ : List ℕ} → Filling s k o rows kept order → k′ ≡ k → o′ ≡ o → rows′ ≡ rows → kept′ ≡ kept → order′ ≡ order
+      → Filling s k′ o′ rows′ kept′ order′
+  moved i a b c d e = rw (a, b, c, d, e) i
 
   module _ (ready : Ready table index start option part rows₀ kept₀ order₀) where
     pub begun : Filling startState 0 0 rows₀ kept₀ order₀
-    unfolding overAt
     begun =
         record {
-          left = whole;
-          reads = from-start t start option part ∙ ready .decodes;
-          within = omega arith;
+          left = length part;
+          left-is = omega arith;
           low = omega arith;
           rows-long = refl;
           kept-long = refl;
           order-long = refl;
-          kept-room = omega (arith, ready .kept-room);
-          order-room = omega (arith, ready .order-room);
-          rows-then = refl;
-          kept-then = refl;
-          order-then = refl;
+          room = rw (from-start t start option part) (ready .room);
+          tells = ap (λ (p : Parted). filledFrom t p 0 0 rows₀ kept₀ order₀) (from-start t start option part);
         }
 
     module _ (s v : State) (e : Element) (k o : ℕ) (rows kept order : List ℕ) (i : Filling s k o rows kept order) (n : Nexts t start option part s e v) where
       abbrev d : DefElement
       d = n .element
 
-      -- the element in front of what is left
-      pub record Split : Type 0 where
-        pub rest : List DefElement
-        pub left-is : i .left ≡ d ∷ rest
-        pub reads : from t start option part v ≡ elements rest
-
-      pub split : Split
-      unfolding before
-      split = by (from t start option part v) refl
-        where
-          by : (p : Parted) → from t start option part v ≡ p → Split
-          by (elements es) q =
-              let f : elements (d ∷ es) ≡ elements (i .left) = sym (n .parts ∙ ap (before d) q) ∙ i .reads in
-              let l : d ∷ es ≡ i .left = cc in
-              record { rest = es; left-is = sym l; reads = q }
-          by (cutShort a x m) q =
-              let f : cutShort a x m ≡ elements (i .left) = sym (n .parts ∙ ap (before d) q) ∙ i .reads in
-              let z : _≡_ {A = ℕ} 0 1 = cc in
-              absurd (omega arith)
-
       placed-is : e .placed ≡ placedFor (ieiAt d) (d .verdict)
       unfolding elementOf
       placed-is = ap (λ (x : Element). x .placed) (n .is)
 
-      entry-is : keptOfFound e part ≡ entryBy (d .octets) (placedFor (ieiAt d) (d .verdict))
+      entry-is : keptOfFound e part ≡ entry d
       unfolding keptOfFound
       entry-is =
           ap (λ (a : ℕ). entryBy (take (e .len) (drop a part)) (e .placed)) (n .starts)
           ∙ ap (λ (x : List ℕ). entryBy x (e .placed)) (sym (n .octets))
           ∙ ap (entryBy (d .octets)) placed-is
 
-      kept-split : keptOf (i .left) ≡ keptOfFound e part ++ keptOf (split .rest)
-      kept-split = ap keptOf (split .left-is) ∙ kept-cons d (split .rest) ∙ ap (λ (x : List ℕ). x ++ keptOf (split .rest)) (sym entry-is)
+      behind : Behind (from t start option part v) (length (entry d)) (length (note d)) (i .left - e .len) k o (length kept₀) (length order₀)
+      behind =
+          room-behind d (from t start option part v) (i .left) (e .len) k o (length kept₀) (length order₀) (n .parts)
+          (omega (arith, entry-short (d .octets) (placedFor (ieiAt d) (d .verdict)) (omega (arith, n .long, n .some-octet)), n .long))
+          (omega (arith, note-short (placedFor (ieiAt d) (d .verdict)), n .some-octet)) (omega (arith, n .within, i .left-is)) (i .room)
 
-      notes-split : entriesOf (i .left) ≡ noteBy (e .placed) ++ entriesOf (split .rest)
-      notes-split =
-          ap entriesOf (split .left-is) ∙ notes-cons d (split .rest)
-          ∙ ap (λ (x : Placed). noteBy x ++ entriesOf (split .rest)) (sym placed-is)
+      pub kept-fits : k + length (keptOfFound e part) ≤ length kept
+      kept-fits = omega (arith, behind .fits-kept, ap length entry-is, i .kept-long)
 
-      pub kept-fits : k + length (keptOfFound e part) + length (keptOf (split .rest)) ≤ length kept
-      kept-fits = omega (arith, i .kept-room, ap length kept-split ∙ length-append (keptOfFound e part) (keptOf (split .rest)))
-
-      pub order-fits : o + length (noteBy (e .placed)) + length (entriesOf (split .rest)) ≤ length order
-      order-fits = omega (arith, i .order-room, ap length notes-split ∙ length-append (noteBy (e .placed)) (entriesOf (split .rest)))
+      pub order-fits : o + length (noteBy (e .placed)) ≤ length order
+      order-fits = omega (arith, behind .fits-order, ap (λ (x : Placed). length (noteBy x)) placed-is, i .order-long)
 
       starts-is : d .at ≡ s .at
       unfolding elementOf
@@ -183,78 +218,81 @@ module _ (table index : List ℕ) (start : ℕ) (option : Bool) (part rows₀ ke
             short = omega (arith, starts-is, n .long, n .within, ready .short);
           }))
 
-      rows-same : length (rowEntered t e rows) ≡ length rows
-      rows-same = entered-long t e rows row-fits
+      pub filled : Filling v (k + length (keptOfFound e part)) (o + length (noteBy (e .placed))) (rowEntered t e rows) (overAt k (keptOfFound e part) kept) (overAt o (noteBy (e .placed)) order)
+      filled = moved next (ap (λ (x : List ℕ). k + length x) entry-is) (ap (λ (x : Placed). o + length (noteBy x)) placed-is) (ap (λ (x : Element). rowEntered t x rows) (n .is)) (ap (λ (x : List ℕ). overAt k x kept) entry-is) (ap (λ (x : Placed). overAt o (noteBy x) order) placed-is)
+        where
+          kept-there : k + length (entry d) ≤ length kept
+          kept-there = omega (arith, behind .fits-kept, i .kept-long)
 
-      abbrev entry : List ℕ
-      entry = keptOfFound e part
+          order-there : o + length (note d) ≤ length order
+          order-there = omega (arith, behind .fits-order, i .order-long)
 
-      abbrev note : List ℕ
-      note = noteBy (e .placed)
+          next : Filling v (k + length (entry d)) (o + length (note d)) (rowEntered t (elementOf d) rows) (overAt k (entry d) kept) (overAt o (note d) order)
+          next =
+              record {
+                left = i .left - e .len;
+                left-is = omega (arith, n .further, n .within, i .left-is);
+                low = n .low;
+                rows-long = ap (λ (x : Element). length (rowEntered t x rows)) (sym (n .is)) ∙ entered-long t e rows row-fits ∙ i .rows-long;
+                kept-long = length-overAt k (entry d) kept kept-there ∙ i .kept-long;
+                order-long = length-overAt o (note d) order order-there ∙ i .order-long;
+                room = behind .room;
+                tells = front t d (from t start option part v) k o rows kept order kept-there order-there ∙ ap (λ (p : Parted). filledFrom t p k o rows kept order) (sym (n .parts)) ∙ i .tells;
+              }
 
-      pub filled : Filling v (k + length entry) (o + length note) (rowEntered t e rows) (overAt k entry kept) (overAt o note order)
-      unfolding enteredAll
-      filled =
-          record {
-            left = split .rest;
-            reads = split .reads;
-            within = omega (arith, n .further, n .within);
-            low = n .low;
-            rows-long = rows-same ∙ i .rows-long;
-            kept-long = length-overAt k entry kept (omega (arith, kept-fits)) ∙ i .kept-long;
-            order-long = length-overAt o note order (omega (arith, order-fits)) ∙ i .order-long;
-            kept-room = omega (arith, kept-fits, length-overAt k entry kept (omega (arith, kept-fits)));
-            order-room = omega (arith, order-fits, length-overAt o note order (omega (arith, order-fits)));
-            rows-then =
-                ap (λ (x : Element). enteredAll t (split .rest) (rowEntered t x rows)) (n .is)
-                ∙ ap (λ (es : List DefElement). enteredAll t es rows) (sym (split .left-is))
-                ∙ i .rows-then;
-            kept-then =
-                over-next k entry (keptOf (split .rest)) kept (omega (arith, kept-fits))
-                ∙ ap (λ (x : List ℕ). overAt k x kept) (sym kept-split)
-                ∙ i .kept-then;
-            order-then =
-                over-next o note (entriesOf (split .rest)) order (omega (arith, order-fits))
-                ∙ ap (λ (x : List ℕ). overAt o x order) (sym notes-split)
-                ∙ i .order-then;
-          }
+  -- at the end nothing is left; an element that is cut short ends the part
+  module _ (s : State) (k o : ℕ) (rows kept order : List ℕ) (i : Filling s k o rows kept order) where
+    pub ended : from t start option part s ≡ elements [] → done k o rows kept order ≡ whole
+    unfolding keptOf entriesOf enteredAll
+    ended e =
+        same-done (omega arith) (omega arith) refl (sym (over-none k kept)) (sym (over-none o order))
+        ∙ ap (λ (p : Parted). filledFrom t p k o rows kept order) (sym e)
+        ∙ i .tells
 
-    -- at the end nothing is left, and a part that decodes is not cut short
-    pub ended : (s : State) (k o : ℕ) (rows kept order : List ℕ) → Filling s k o rows kept order → from t start option part s ≡ elements []
-        → Filled t whole rows₀ kept₀ order₀ rows kept order
-    unfolding enteredAll keptOf entriesOf
-    ended s k o rows kept order i e =
-        let l : i .left ≡ [] = nil (sym (i .reads) ∙ e) in
-        record {
-          rows-are = ap (λ (es : List DefElement). enteredAll t es rows) (sym l) ∙ i .rows-then;
-          kept-is = sym (over-none k kept) ∙ ap (λ (es : List DefElement). overAt k (keptOf es) kept) (sym l) ∙ i .kept-then;
-          order-is = sym (over-none o order) ∙ ap (λ (x : List ℕ). overAt o x order) (sym (ap entriesOf l)) ∙ i .order-then;
-        }
-      where
-        nil : {es : List DefElement} → elements es ≡ elements [] → es ≡ []
-        nil q = cc
+    pub cut-there : {a x n : ℕ} → from t start option part s ≡ cutShort a x n → cut a x n ≡ whole
+    cut-there e = ap (λ (p : Parted). filledFrom t p k o rows kept order) (sym e) ∙ i .tells
 
-    pub never-cut : {s : State} {k o : ℕ} {rows kept order : List ℕ} {a x m : ℕ} → Filling s k o rows kept order → from t start option part s ≡ cutShort a x m → ⊥
-    never-cut i e =
-        let f : elements (i .left) ≡ cutShort _ _ _ = sym (i .reads) ∙ e in
-        let z : _≡_ {A = ℕ} 0 1 = cc in
-        omega arith
+-- ---- what is left of a part
 
-  -- the same at equal numbers and lists
-  pub moved : {s : State} {k k′ o o′ : ℕ} {rows rows′ kept kept′ order order′ : List ℕ} → Filling s k o rows kept order → k′ ≡ k → o′ ≡ o → rows′ ≡ rows → kept′ ≡ kept → order′ ≡ order
-      → Filling s k′ o′ rows′ kept′ order′
-  moved i a b c d e = rw (a, b, c, d, e) i
+-- one that decodes, with the octets used of each log
+pub record Entered (t : List Row) (p : Parted) (k o : ℕ) (rows kept order rows′ kept′ order′ : List ℕ) : Type 0 where
+  pub decodes : p ≡ elements (elementsOf p)
+  pub kept-used : k ≡ length (keptOf (elementsOf p))
+  pub order-used : o ≡ length (entriesOf (elementsOf p))
+  pub rows-are : rows′ ≡ enteredAll t (elementsOf p) rows
+  pub kept-is : kept′ ≡ over (keptOf (elementsOf p)) kept
+  pub order-is : order′ ≡ over (entriesOf (elementsOf p)) order
+
+pub entered : (t : List Row) (p : Parted) (k o : ℕ) (rows kept order : List ℕ) {rows′ kept′ order′ : List ℕ} → done k o rows′ kept′ order′ ≡ filledFrom t p 0 0 rows kept order
+    → Entered t p k o rows kept order rows′ kept′ order′
+unfolding elementsOf overAt
+entered t (cutShort a x n) k o rows kept order e = let z : _≡_ {A = ℕ} 0 1 = cc in absurd (omega arith)
+entered t (elements es) k o rows kept order {rows′ = rows′} {kept′ = kept′} {order′ = order′} e =
+    let a : k ≡ 0 + length (keptOf es) = cc in
+    let b : o ≡ 0 + length (entriesOf es) = cc in
+    let c : rows′ ≡ enteredAll t es rows = cc in
+    let d : kept′ ≡ overAt 0 (keptOf es) kept = cc in
+    let f : order′ ≡ overAt 0 (entriesOf es) order = cc in
+    record { decodes = refl; kept-used = omega arith; order-used = omega arith; rows-are = c; kept-is = d; order-is = f }
+
+pub cut-of : (t : List Row) (p : Parted) (k o : ℕ) (rows kept order : List ℕ) {a x n : ℕ} → cut a x n ≡ filledFrom t p k o rows kept order → p ≡ cutShort a x n
+cut-of t (elements es) k o rows kept order e = let z : _≡_ {A = ℕ} 0 1 = cc in absurd (omega arith)
+cut-of t (cutShort b y m) k o rows kept order {a = a} {x = x} {n = n} e =
+    let i : a ≡ b = cc in
+    let j : x ≡ y = cc in
+    let l : n ≡ m = cc in
+    rw (i, j, l)
+
+-- of a part that decodes, whatever was answered
+pub entered-whole : (t : List Row) (p : Parted) → p ≡ elements (elementsOf p) → (m : Measured) {rows kept order rows′ kept′ order′ : List ℕ} → outcome m rows′ kept′ order′ ≡ filledFrom t p 0 0 rows kept order
+    → (k : ℕ) × ((o : ℕ) × Entered t p k o rows kept order rows′ kept′ order′)
+entered-whole t p d (Measured.Needs k o) {rows = rows} {kept = kept} {order = order} e = (k, (o, entered t p k o rows kept order e))
+entered-whole t p d (Measured.Cut a x n) {rows = rows} {kept = kept} {order = order} e =
+    let q : elements (elementsOf p) ≡ cutShort a x n = sym d ∙ cut-of t p 0 0 rows kept order e in
+    let z : _≡_ {A = ℕ} 0 1 = cc in
+    absurd (omega arith)
 
 -- a part is ready for other rows of the same length
 pub still-ready : {table index : List ℕ} {start : ℕ} {option : Bool} {part rows rows′ kept order : List ℕ} → Ready table index start option part rows kept order
     → length rows′ ≡ length rows → Ready table index start option part rows′ kept order
-still-ready r l =
-    record {
-      indexed = r .indexed;
-      passes = r .passes;
-      short = r .short;
-      decodes = r .decodes;
-      rows-room = omega (arith, r .rows-room);
-      kept-room = r .kept-room;
-      order-room = r .order-room;
-    }
+still-ready r l = record { indexed = r .indexed; passes = r .passes; short = r .short; rows-room = omega (arith, r .rows-room); room = r .room }

@@ -7,7 +7,7 @@ use Rattle.definitions.specs.Basic.{over, overAt}
 use mathlib.Core.Path.{_≡_}
 use mathlib.Core.Option.{none}
 use Rattle.definitions.specs.Rows.{Row, rowsOf, rowAt, form, firstBad}
-use Rattle.definitions.specs.Elements.{Element as DefElement, elements, elementsOf, parted}
+use Rattle.definitions.specs.Elements.{Element as DefElement, Parted, elements, cutShort, elementsOf, parted}
 use Rattle.definitions.specs.Length.{header}
 use Rattle.definitions.specs.Logs.{keptEntry, orderEntry, keptOf, entriesOf}
 use Rattle.definitions.specs.Reading.{placeRows}
@@ -16,6 +16,7 @@ use Rattle.order.specs.declared.Placed.{Placed}
 use Rattle.elements.specs.Steps.{elementOf}
 use Rattle.rows.specs.Indexed.{Indexed}
 use Rattle.elements.specs.declared.element.Element.{Element}
+use Rattle.reading.specs.declared.measure.Measured.{Measured}
 
 -- ---- the place rows
 
@@ -64,23 +65,36 @@ unfoldable pub enteredAll : List Row → List DefElement → List ℕ → List �
 enteredAll t [] rows = rows
 enteredAll t (e ∷ es) rows = enteredAll t es (rowEntered t (elementOf e) rows)
 
--- a part that decodes, under a table that passes and its index, with room for its rows and every entry
+-- the octets used of each log, and what is then in the rows and logs; or the unknown element that is cut short
+pub data Outcome : Type 0 where
+  done : ℕ → ℕ → List ℕ → List ℕ → List ℕ → Outcome
+  cut : ℕ → ℕ → ℕ → Outcome
+
+-- a part entered behind so many octets of each log
+abbrev pub filledFrom : List Row → Parted → ℕ → ℕ → List ℕ → List ℕ → List ℕ → Outcome
+filledFrom t (elements es) k o rows kept order =
+    done (k + length (keptOf es)) (o + length (entriesOf es)) (enteredAll t es rows) (overAt k (keptOf es) kept) (overAt o (entriesOf es) order)
+filledFrom t (cutShort a x n) k o rows kept order = cut a x n
+
+-- what the code answers and leaves
+abbrev pub outcome : Measured → List ℕ → List ℕ → List ℕ → Outcome
+outcome (Measured.Needs k o) rows kept order = done k o rows kept order
+outcome (Measured.Cut a x n) rows kept order = cut a x n
+
+-- room behind so many octets of each log: for what a part that decodes needs, or for twice its octets, which is as much as any needs
+pub data Room (p : Parted) (left k o kept order : ℕ) : Type 0 where
+  exact : p ≡ elements (elementsOf p) → k + length (keptOf (elementsOf p)) ≤ kept → o + length (entriesOf (elementsOf p)) ≤ order → Room p left k o kept order
+  twice : k + 2 * left ≤ kept → o + 2 * left ≤ order → Room p left k o kept order
+
+-- a part under a table that passes and its index, with room for its rows and logs
 pub record Ready (table index : List ℕ) (start : ℕ) (option : Bool) (part rows kept order : List ℕ) : Type 0 where
   pub indexed : Indexed table index
   pub passes : firstBad (rowsOf table) ≡ none
   pub short : length part ≤ 65535
-  pub decodes : parted (rowsOf table) start option part ≡ elements (elementsOf (parted (rowsOf table) start option part))
   pub rows-room : 3 * length (rowsOf table) ≤ length rows
-  pub kept-room : length (keptOf (elementsOf (parted (rowsOf table) start option part))) ≤ length kept
-  pub order-room : length (entriesOf (elementsOf (parted (rowsOf table) start option part))) ≤ length order
+  pub room : Room (parted (rowsOf table) start option part) (length part) 0 0 (length kept) (length order)
 
--- what filling leaves
-pub record Filled (t : List Row) (es : List DefElement) (rows kept order rows′ kept′ order′ : List ℕ) : Type 0 where
-  pub rows-are : rows′ ≡ enteredAll t es rows
-  pub kept-is : kept′ ≡ over (keptOf es) kept
-  pub order-is : order′ ≡ over (entriesOf es) order
-
--- what is written of a part: the rows of its places, and both logs
+-- what is written of a part that decodes: the rows of its places, and both logs
 pub record Written (t : List Row) (es : List DefElement) (rows kept order rows′ kept′ order′ : List ℕ) : Type 0 where
   pub rows-are : rows′ ≡ over (placeRows t es) rows
   pub kept-is : kept′ ≡ over (keptOf es) kept

@@ -3,6 +3,9 @@ use crate::fill::fill;
 use crate::measure::Measured;
 use crate::measure::measure;
 use crate::plain::plain;
+use crate::short::MOST_ROWS;
+use crate::short::MOST_SHORT;
+use crate::short::decode_short;
 use octets::MOST_OCTETS;
 use real::INDEX_P;
 use real::INDEX_PDU_SESSION_ESTABLISHMENT_ACCEPT;
@@ -24,6 +27,7 @@ use rows::columns::places;
 ghost use mathlib.Core.Path.{_≡_};
 ghost use mathlib.Core.Option.{none};
 ghost use mathlib.Core.Bool.{false};
+ghost use Prim.Native.Nat.{_*_};
 ghost use lib.ListN.{length};
 ghost use Rattle.definitions.specs.Rows.{rowsOf, firstBad};
 ghost use Rattle.definitions.specs.Elements.{parted};
@@ -74,11 +78,54 @@ fn decode_by_index(
     if plain(octets, table, index, n, rows) {
         return Decoded::Done(0, 0);
     }
-    decode_elements(octets, table, index, tlve_start, option, rows, kept, order)
+    decode_elements(
+        octets,
+        table,
+        index,
+        tlve_start,
+        option,
+        n,
+        rows,
+        kept,
+        order,
+    )
+}
+
+// A part of which the table does not say all, with n numbers of rows.
+fn decode_elements(
+    octets: &[u8],
+    table: &[u32],
+    index: &[u8; 256],
+    tlve_start: u8,
+    option: bool,
+    n: usize,
+    rows: &mut [u32],
+    kept: &mut [u8],
+    order: &mut [u8],
+) -> Decoded
+    requires { ⌜ Fits (now table) (now index) (now octets) (length (now rows)) × (plainIn (rowsOf (now table)) 0 (parted (rowsOf (now table)) «tlve_start» option (now octets)) ≡ false) × (n ≡ 3 * length (rowsOf (now table))) ⌝ }
+    ensures { λ r. ⌜ Reads (reading (now (table .entry)) «tlve_start» option (now (octets .entry)) (lentOf (now (rows .entry)) (now (kept .entry)) (now (order .entry)))) r (now (rows .exit)) (now (kept .exit)) (now (order .exit)) ⌝ }
+{
+    if octets.len() <= MOST_SHORT {
+        if n <= MOST_ROWS {
+            return decode_short(
+                octets,
+                table,
+                index,
+                tlve_start,
+                option,
+                n,
+                rows,
+                kept,
+                order,
+            );
+        }
+    }
+    decode_long(octets, table, index, tlve_start, option, rows, kept, order)
 }
 
 // A part of which the table does not say all: what it needs of the logs, then what is written.
-fn decode_elements(
+fn decode_long(
     octets: &[u8],
     table: &[u32],
     index: &[u8; 256],

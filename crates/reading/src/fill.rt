@@ -1,4 +1,5 @@
 // What reading writes into the lent rows and logs, once it is known that there is room.
+use crate::measure::Measured;
 use elements::element::Came;
 use elements::element::Element;
 use elements::element::NO_PLACE;
@@ -25,10 +26,10 @@ ghost use mathlib.Core.List.{[], _∷_};
 ghost use Rattle.definitions.specs.Basic.{over, overAt};
 ghost use Rattle.definitions.specs.Rows.{rowsOf};
 ghost use Rattle.definitions.specs.Logs.{keptEntry, orderEntry};
-ghost use Rattle.definitions.specs.Elements.{elementsOf, parted};
+ghost use Rattle.definitions.specs.Elements.{elements, elementsOf, parted};
 ghost use Rattle.order.specs.Order.{placedAs};
 ghost use Rattle.rows.specs.Numbers.{Whole};
-ghost use Rattle.reading.specs.Fills.{RowFits, rowEntered, keptOfFound, Ready, Filled, Written};
+ghost use Rattle.reading.specs.Fills.{RowFits, rowEntered, keptOfFound, outcome, filledFrom, Ready, Written};
 
 // No number in the first n.
 fn clear_rows(rows: &mut [u32], n: usize)
@@ -87,11 +88,16 @@ fn keep(octets: &[u8], e: Element, kept: &mut [u8], used: usize) -> usize
     }
 }
 
-// The octets of an element behind their count; the octets then used.
+// The octets of an element behind their count; the octets then used. One octet, as many elements have, is stored here.
 fn keep_octets(element: &[u8], kept: &mut [u8], used: usize) -> usize
     requires { ⌜ (1 ≤ length (now element)) × (length (now element) ≤ 65535) × (used + length (keptEntry (now element)) ≤ length (now kept)) ⌝ }
     ensures { λ r. ⌜ (r ≡ used + length (keptEntry (now (element .entry)))) × (now (kept .exit) ≡ overAt used (keptEntry (now (element .entry))) (now (kept .entry))) ⌝ }
 {
+    if element.len() == 1 {
+        kept[used] = 1;
+        kept[used + 1] = element[0];
+        return used + 2;
+    }
     used + put_raw(&mut kept[used..], element)
 }
 
@@ -104,8 +110,9 @@ fn note(placed: Placed, order: &mut [u8], used: usize) -> usize
     used + entry_len(placed)
 }
 
-// Every element of a part that decodes, into rows and logs that have room, each with an entry.
-fn fill_elements(
+// Every element of a part, into rows and logs that have room, each with an entry; the octets then used of each log, or the unknown
+// element that is cut short.
+pub(crate) fn fill_elements(
     octets: &[u8],
     table: &[u32],
     index: &[u8; 256],
@@ -114,9 +121,9 @@ fn fill_elements(
     rows: &mut [u32],
     kept: &mut [u8],
     order: &mut [u8],
-)
+) -> Measured
     requires { ⌜ Ready (now table) (now index) «tlve_start» option (now octets) (now rows) (now kept) (now order) ⌝ }
-    ensures { λ r. ⌜ Filled (rowsOf (now (table .entry))) (elementsOf (parted (rowsOf (now (table .entry))) «tlve_start» option (now (octets .entry)))) (now (rows .entry)) (now (kept .entry)) (now (order .entry)) (now (rows .exit)) (now (kept .exit)) (now (order .exit)) ⌝ }
+    ensures { λ r. ⌜ outcome r (now (rows .exit)) (now (kept .exit)) (now (order .exit)) ≡ filledFrom (rowsOf (now (table .entry))) (parted (rowsOf (now (table .entry))) «tlve_start» option (now (octets .entry))) 0 0 (now (rows .entry)) (now (kept .entry)) (now (order .entry)) ⌝ }
 {
     let mut state = State {
         at: 0,
@@ -128,7 +135,7 @@ fn fill_elements(
     loop {
         let at = state.at;
         if at >= octets.len() {
-            return;
+            return Measured::Needs(k, o);
         }
         let x = octets[at];
         let iei = iei_of(x);
@@ -158,13 +165,13 @@ fn fill_elements(
                 state = after(state, place, at + len);
             }
             Came::Cut => {
-                return;
+                return Measured::Cut(at, x, left.len());
             }
         }
     }
 }
 
-// All that reading writes: the rows of every place, and both logs.
+// All that reading writes of a part that decodes: the rows of every place, and both logs.
 pub(crate) fn fill(
     octets: &[u8],
     table: &[u32],
@@ -175,7 +182,7 @@ pub(crate) fn fill(
     kept: &mut [u8],
     order: &mut [u8],
 )
-    requires { ⌜ Ready (now table) (now index) «tlve_start» option (now octets) (now rows) (now kept) (now order) ⌝ }
+    requires { ⌜ Ready (now table) (now index) «tlve_start» option (now octets) (now rows) (now kept) (now order) × (parted (rowsOf (now table)) «tlve_start» option (now octets) ≡ elements (elementsOf (parted (rowsOf (now table)) «tlve_start» option (now octets)))) ⌝ }
     ensures { λ r. ⌜ Written (rowsOf (now (table .entry))) (elementsOf (parted (rowsOf (now (table .entry))) «tlve_start» option (now (octets .entry)))) (now (rows .entry)) (now (kept .entry)) (now (order .entry)) (now (rows .exit)) (now (kept .exit)) (now (order .exit)) ⌝ }
 {
     clear_rows(rows, 3 * places(table));

@@ -3,3 +3,4 @@ pub mod decode;
 mod fill;
 mod measure;
 mod plain;
+mod short;

@@ -52,7 +52,7 @@ fn plain_pass(octets: &[u8], table: &[u32], index: &[u8; 256], found: &mut [u32]
 }
 
 // The first n numbers.
-fn copy_rows(rows: &mut [u32], found: &[u32], n: usize)
+pub(crate) fn copy_rows(rows: &mut [u32], found: &[u32], n: usize)
     requires { ⌜ (n ≤ length (now rows)) × (n ≤ length (now found)) ⌝ }
     ensures { λ r. ⌜ now (rows .exit) ≡ over (take n (now (found .entry))) (now (rows .entry)) ⌝ }
 {

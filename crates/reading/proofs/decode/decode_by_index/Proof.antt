@@ -46,7 +46,7 @@ decode-elements-requires : tie.Need-decode-elements-requires
 decode-elements-requires c κs =
     let a = c .before .before .before .before .before .before .before .before .before .before .before .before .before .before .before .before .args in
     let p = c .before .before .before .before .before .before .plain .ensures (a .tlve-start) (a .option) in
-    (record { indexed = c .before .before .before .before .before .before .before .before .before .before .before .before .before .before .before .before .pre .0; passes = c .before .before .before .before .before .before .before .before .before .before .before .before .before .before .before .before .pre .1; short = omega arith; room = rw (unchanged (c .before .before .before) _ (p .rows-are)) (omega (arith, c .before .before .before .before .before .before .before .before .before .places .ensures)) }, sym (p .is) ∙ c .before .before .before .if3 .left)
+    (record { indexed = c .before .before .before .before .before .before .before .before .before .before .before .before .before .before .before .before .pre .0; passes = c .before .before .before .before .before .before .before .before .before .before .before .before .before .before .before .before .pre .1; short = omega arith; room = rw (unchanged (c .before .before .before) _ (p .rows-are)) (omega (arith, c .before .before .before .before .before .before .before .before .before .places .ensures)) }, sym (p .is) ∙ c .before .before .before .if3 .left, omega (arith, c .before .before .before .before .before .before .before .before .before .places .ensures))
 
 same-length-2 : tie.Need-same-length-2
 same-length-2 c = search needs

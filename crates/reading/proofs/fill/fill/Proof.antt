@@ -10,7 +10,7 @@ use Rattle.definitions.specs.Elements.{elementsOf, parted}
 use Rattle.definitions.specs.Reading.{placeRows}
 use Rattle.reading.specs.Fills.{enteredAll}
 use Rattle.reading.proofs.Entered.{all-entered}
-use Rattle.reading.proofs.Filling.{still-ready}
+use Rattle.reading.proofs.Filling.{entered-whole, still-ready}
 use borrow.Author.Needs.{needs}
 use Rattle.reading.proofs.fill.fill.Statement.{statement}
 use Rattle.reading.proofs.fill.fill.Tie as tie
@@ -32,10 +32,10 @@ cleared c rows′ q =
     let es = elementsOf (parted t (a .tlve-start) (a .option) (a .octets .now)) in
     let r = c .before .before .before .before .before .before .before .before .pre in
     ap (enteredAll t es) (q ∙ ap (λ (m : ℕ). over (replicate (3 * m) 0) (a .rows .now)) (c .before .places .ensures))
-    ∙ all-entered t (r .passes) (a .tlve-start) (a .option) (a .octets .now) es (r .decodes) (a .rows .now)
+    ∙ all-entered t (r .0 .passes) (a .tlve-start) (a .option) (a .octets .now) es (r .1) (a .rows .now)
 
 fill-elements-requires : tie.Need-fill-elements-requires
-fill-elements-requires c κs = still-ready (c .before .before .before .before .before .before .before .before .before .before .before .before .before .pre) (search needs)
+fill-elements-requires c κs = still-ready (c .before .before .before .before .before .before .before .before .before .before .before .before .before .pre .0) (search needs)
 
 same-length : tie.Need-same-length
 same-length c = search needs
@@ -47,7 +47,12 @@ same-length-3 : tie.Need-same-length-3
 same-length-3 c = search needs
 
 returns : tie.Need-returns
-returns c = let f = c .before .before .before .before .before .before .fill-elements .ensures in record { rows-are = f .rows-are ∙ cleared (c .before .before .before .before .before .before .before .before .before .before .before .before) _ (c .before .before .before .before .before .before .before .before .before .before .before .before .clear-rows .ensures); kept-is = f .kept-is; order-is = f .order-is }
+returns c =
+    let a = c .before .before .before .before .before .before .before .before .before .before .before .before .before .before .before .before .before .before .before .before .args in
+    let f = c .before .before .before .before .before .before .fill-elements in
+    let p = parted (rowsOf (a .table .now)) (a .tlve-start) (a .option) (a .octets .now) in
+    let e = entered-whole (rowsOf (a .table .now)) p (c .before .before .before .before .before .before .before .before .before .before .before .before .before .before .before .before .before .before .before .before .pre .1) (f .result) (f .ensures) .1 .1 in
+    record { rows-are = e .rows-are ∙ cleared (c .before .before .before .before .before .before .before .before .before .before .before .before) _ (c .before .before .before .before .before .before .before .before .before .before .before .before .clear-rows .ensures); kept-is = e .kept-is; order-is = e .order-is }
 
 pub fill-spec : {M : Type 1} → statement M
 fill-spec =

@@ -1,5 +1,5 @@
 -- `fill_elements` enters an element a turn: the invariant says that what is left to enter gives what the whole part gives.
--- The measure is what is left of the part; a part that decodes is never cut short.
+-- The measure is what is left of the part.
 use Prim.Native.Nat.{_-_}
 use native.Mathlib.Omega.{arith}
 use mathlib.Core.Path.{_≡_, refl, _∙_}
@@ -13,7 +13,7 @@ use Rattle.elements.specs.declared.element.State.{State}
 use Rattle.elements.specs.declared.element.Element.{Element}
 use Rattle.elements.proofs.Came.{Ways, came-here}
 use Rattle.elements.proofs.Nexts.{Nexts, nexts, cuts, at-end}
-use Rattle.reading.proofs.Filling.{Filling, begun, row-fits, kept-fits, order-fits, filled, moved, ended, never-cut}
+use Rattle.reading.proofs.Filling.{Filling, begun, row-fits, kept-fits, order-fits, filled, moved, ended, cut-there}
 use borrow.Author.Needs.{needs}
 use Rattle.reading.proofs.fill.fill_elements.Statement.{statement}
 use Rattle.reading.proofs.fill.fill_elements.Tie as tie
@@ -38,7 +38,7 @@ same-length-3 : tie.Need-same-length-3 Inv-loop μ-loop
 same-length-3 c = c .before .loop .inv .order-long
 
 returns : tie.Need-returns Inv-loop μ-loop
-returns c = let a = c .before .before .before .before .before .before .before .args in let l = c .before .loop in ended (a .table .now) (a .index .now) (a .tlve-start) (a .option) (a .octets .now) (a .rows .now) (a .kept .now) (a .order .now) (c .before .before .before .before .before .before .before .pre) (l .state) (l .k) (l .o) (l .rows) (l .kept) (l .order) (l .inv) (at-end (rowsOf (a .table .now)) (a .tlve-start) (a .option) (a .octets .now) (l .state) (l .inv .within) (omega arith))
+returns c = let a = c .before .before .before .before .before .before .before .args in let l = c .before .loop in ended (a .table .now) (a .index .now) (a .tlve-start) (a .option) (a .octets .now) (a .rows .now) (a .kept .now) (a .order .now) (l .state) (l .k) (l .o) (l .rows) (l .kept) (l .order) (l .inv) (at-end (rowsOf (a .table .now)) (a .tlve-start) (a .option) (a .octets .now) (l .state) (omega (arith, l .inv .left-is)) (omega arith))
 
 shared-slice-read-x : tie.Need-shared-slice-read-x Inv-loop μ-loop
 shared-slice-read-x c = search needs
@@ -94,7 +94,7 @@ abbrev behind : tie.After-known-told Inv-loop μ-loop → State
 behind c = stateAfter (c .before .before .before .before .before .before .before .before .before .before .loop .state) (c .before .before .before .before .before .before .entry-of .result) (c .before .came .given .0 .0)
 
 next : (c : tie.After-known-told Inv-loop μ-loop) → let a = c .before .before .before .before .before .before .before .before .before .before .before .before .before .before .before .before .args in Nexts (rowsOf (a .table .now)) (a .tlve-start) (a .option) (a .octets .now) (c .before .before .before .before .before .before .before .before .before .before .loop .state) (element c) (behind c)
-next c = let a = c .before .before .before .before .before .before .before .before .before .before .before .before .before .before .before .before .args in nexts (rowsOf (a .table .now)) (a .tlve-start) (a .option) (a .octets .now) (c .before .before .before .before .before .before .before .before .before .before .loop .state) (c .before .before .before .before .before .before .before .before .before .before .loop .inv .within) _ _ (rw (c .before .came .given .1) at (here (c .before .before .before)))
+next c = let a = c .before .before .before .before .before .before .before .before .before .before .before .before .before .before .before .before .args in nexts (rowsOf (a .table .now)) (a .tlve-start) (a .option) (a .octets .now) (c .before .before .before .before .before .before .before .before .before .before .loop .state) (omega (arith, c .before .before .before .before .before .before .before .before .before .before .loop .inv .left-is)) _ _ (rw (c .before .came .given .1) at (here (c .before .before .before)))
 
 enter-row-requires : tie.Need-enter-row-requires Inv-loop μ-loop
 enter-row-requires c κs = let a = c .before .before .before .before .before .before .before .before .before .before .before .before .before .before .before .before .before .args in let l = c .before .before .before .before .before .before .before .before .before .before .before .loop in (c .before .before .before .before .before .before .before .before .before .before .before .before .before .before .before .before .before .pre .indexed .whole, row-fits (a .table .now) (a .index .now) (a .tlve-start) (a .option) (a .octets .now) (a .rows .now) (a .kept .now) (a .order .now) (c .before .before .before .before .before .before .before .before .before .before .before .before .before .before .before .before .before .pre) (l .state) (behind (c .before)) (element (c .before)) (l .k) (l .o) (l .rows) (l .kept) (l .order) (l .inv) (next (c .before)))
@@ -130,7 +130,7 @@ same-length-6 : tie.Need-same-length-6 Inv-loop μ-loop
 same-length-6 c = c .before .before .before .before .before .before .before .before .before .loop .inv .order-long
 
 returns-2 : tie.Need-returns-2 Inv-loop μ-loop
-returns-2 c = let a = c .before .before .before .before .before .before .before .before .before .before .before .before .before .before .before .args in let l = c .before .before .before .before .before .before .before .before .before .loop in absurd (never-cut (a .table .now) (a .index .now) (a .tlve-start) (a .option) (a .octets .now) (a .rows .now) (a .kept .now) (a .order .now) (c .before .before .before .before .before .before .before .before .before .before .before .before .before .before .before .pre) (l .inv) (cuts (rowsOf (a .table .now)) (a .tlve-start) (a .option) (a .octets .now) (l .state) (l .inv .within) (rw (c .enum-told .given .1) at (here (c .before .before)))))
+returns-2 c = let a = c .before .before .before .before .before .before .before .before .before .before .before .before .before .before .before .args in let l = c .before .before .before .before .before .before .before .before .before .loop in cut-there (a .table .now) (a .index .now) (a .tlve-start) (a .option) (a .octets .now) (a .rows .now) (a .kept .now) (a .order .now) (l .state) (l .k) (l .o) (l .rows) (l .kept) (l .order) (l .inv) (cuts (rowsOf (a .table .now)) (a .tlve-start) (a .option) (a .octets .now) (l .state) (omega (arith, l .inv .left-is)) (rw to-end (rw (c .enum-told .given .1) at (here (c .before .before)))))
 
 pub fill-elements-spec : {M : Type 1} → statement M
 fill-elements-spec =

@@ -1,0 +1,74 @@
+// A short part is read in one pass, into arrays of its own, and copied out where there is room.
+use crate::decode::Decoded;
+use crate::decode::Room;
+use crate::fill::fill_elements;
+use crate::measure::Measured;
+use crate::plain::copy_rows;
+use octets::put_slice;
+ghost use mathlib.Core.Path.{_≡_};
+ghost use mathlib.Core.Bool.{false};
+ghost use Prim.Native.Nat.{_*_, _≤_};
+ghost use lib.ListN.{length, take};
+ghost use Rattle.definitions.specs.Basic.{over};
+ghost use Rattle.definitions.specs.Rows.{rowsOf};
+ghost use Rattle.definitions.specs.Elements.{parted};
+ghost use Rattle.definitions.specs.Reading.{reading};
+ghost use Rattle.reading.specs.Plains.{Fits, plainIn};
+ghost use Rattle.reading.specs.Decodes.{lentOf, Reads};
+
+// The octets of a part, and the numbers of rows, that the arrays hold: no log needs more than twice the octets.
+pub(crate) const MOST_SHORT: usize = 512;
+
+pub(crate) const MOST_ROWS: usize = 120;
+
+// The first n octets.
+fn copy_octets(out: &mut [u8], octets: &[u8], n: usize)
+    requires { ⌜ (n ≤ length (now out)) × (n ≤ length (now octets)) ⌝ }
+    ensures { λ r. ⌜ now (out .exit) ≡ over (take n (now (octets .entry))) (now (out .entry)) ⌝ }
+{
+    put_slice(out, &octets[..n]);
+}
+
+// A short part of which the table does not say all, with n numbers of rows.
+pub(crate) fn decode_short(
+    octets: &[u8],
+    table: &[u32],
+    index: &[u8; 256],
+    tlve_start: u8,
+    option: bool,
+    n: usize,
+    rows: &mut [u32],
+    kept: &mut [u8],
+    order: &mut [u8],
+) -> Decoded
+    requires { ⌜ Fits (now table) (now index) (now octets) (length (now rows)) × (plainIn (rowsOf (now table)) 0 (parted (rowsOf (now table)) «tlve_start» option (now octets)) ≡ false) × (n ≡ 3 * length (rowsOf (now table))) × (n ≤ 120) × (length (now octets) ≤ 512) ⌝ }
+    ensures { λ r. ⌜ Reads (reading (now (table .entry)) «tlve_start» option (now (octets .entry)) (lentOf (now (rows .entry)) (now (kept .entry)) (now (order .entry)))) r (now (rows .exit)) (now (kept .exit)) (now (order .exit)) ⌝ }
+{
+    let mut found = [0u32; MOST_ROWS];
+    let mut aside = [0u8; 1024];
+    let mut entries = [0u8; 1024];
+    match fill_elements(
+        octets,
+        table,
+        index,
+        tlve_start,
+        option,
+        &mut found,
+        &mut aside,
+        &mut entries,
+    ) {
+        Measured::Cut(start, x, left) => Decoded::CutShort(start, x, left),
+        Measured::Needs(k, o) => {
+            if kept.len() < k {
+                return Decoded::NoRoom(Room::Kept);
+            }
+            if order.len() < o {
+                return Decoded::NoRoom(Room::Order);
+            }
+            copy_rows(rows, &found, n);
+            copy_octets(kept, &aside, k);
+            copy_octets(order, &entries, o);
+            Decoded::Done(k, o)
+        }
+    }
+}
