@@ -67,11 +67,11 @@ impl Driver {
         }
     }
 
-    /// The six real tables by number and lent, and numbers that no table has.
+    /// The six real tables, and number 0, which has no mandatory row, by number and lent, and numbers that no table has.
     pub fn mandatory_numbered_tables(&mut self) {
         let tables = self.tables.mandatory.clone();
         for _ in 0..8_000 * self.times {
-            let number = 1 + self.random.below(6);
+            let number = self.random.below(7);
             let rows = mandatory_rows_of(&tables[number]);
             let by = if self.random.once_in(4) { None } else { Some(number as u32) };
             self.rows_of_table(by, &tables[number], &rows);
