@@ -1,5 +1,5 @@
 //! Records a sample of the oracle's answers to writings, edits, mandatory rows and findings, into recorded-writing.bin, and its
-//! writings and findings, kinds 1 and 6, into crates/replay_writing/stdin too. src/recorded.rs describes both lists.
+//! writings, settings and findings, kinds 1, 2 and 6, into crates/replay_writing/stdin too. src/recorded.rs describes both lists.
 
 use std::collections::BTreeMap;
 use std::fs;
@@ -130,6 +130,9 @@ impl Recorder {
         let writing = Call::Write { table: table.to_vec(), filled, output };
         let written = writing.on(&self.right);
         self.list.case(&[(edit, &outcome), (&writing, &written)]);
+        if matches!(edit, Call::Set { .. }) {
+            self.replayed.case(&[(edit, &outcome), (&writing, &written)]);
+        }
     }
 
     /// The edits of document 01.
