@@ -1,5 +1,6 @@
 //! Records a sample of the oracle's answers to writings, edits, mandatory rows and findings, into recorded-writing.bin, and its
-//! writings and findings, kinds 1 and 6, into crates/replay_writing/stdin too. src/recorded.rs describes both lists.
+//! writings, settings and findings, kinds 1, 2 and 6, into crates/replay_writing/stdin too, its mandatory rows, kinds 4 and 5, into
+//! crates/replay_mandatory/stdin. src/recorded.rs describes all three lists.
 
 use std::collections::BTreeMap;
 use std::fs;
@@ -28,6 +29,7 @@ struct Recorder {
     random: Random,
     list: Writer,
     replayed: Writer,
+    replayed_rows: Writer,
     answers: BTreeMap<(&'static str, u32, u64), usize>,
 }
 
@@ -39,6 +41,7 @@ fn main() -> ExitCode {
         random: Random::new(1),
         list: Writer::default(),
         replayed: Writer::default(),
+        replayed_rows: Writer::default(),
         answers: BTreeMap::new(),
     };
     recorder.examples();
@@ -48,7 +51,11 @@ fn main() -> ExitCode {
         recorder.numbered_table();
         recorder.mandatory_rows();
     }
-    let lists = [("recorded-writing.bin", &recorder.list), ("../crates/replay_writing/stdin", &recorder.replayed)];
+    let lists = [
+        ("recorded-writing.bin", &recorder.list),
+        ("../crates/replay_writing/stdin", &recorder.replayed),
+        ("../crates/replay_mandatory/stdin", &recorder.replayed_rows),
+    ];
     for (name, list) in lists {
         let path = PathBuf::from(env!("CARGO_MANIFEST_DIR")).join(name);
         let octets = list.list();
@@ -102,8 +109,11 @@ impl Recorder {
         let (outcome, wanted) = self.wanted(call);
         if wanted {
             self.list.case(&[(call, &outcome)]);
-            if matches!(call, Call::Write { .. } | Call::WriteBy { .. } | Call::Findings { .. }) {
-                self.replayed.case(&[(call, &outcome)]);
+            match call {
+                Call::Write { .. } | Call::WriteBy { .. } | Call::Findings { .. } => {
+                    self.replayed.case(&[(call, &outcome)]);
+                }
+                _ => self.replayed_rows.case(&[(call, &outcome)]),
             }
         }
     }
@@ -130,6 +140,9 @@ impl Recorder {
         let writing = Call::Write { table: table.to_vec(), filled, output };
         let written = writing.on(&self.right);
         self.list.case(&[(edit, &outcome), (&writing, &written)]);
+        if matches!(edit, Call::Set { .. }) {
+            self.replayed.case(&[(edit, &outcome), (&writing, &written)]);
+        }
     }
 
     /// The edits of document 01.

@@ -1,5 +1,7 @@
-// Runs the recorded list on standard input through our writing and our findings, and prints how many cases there are of each number, how many
+// Runs the recorded list on standard input through our writing, setting and findings, and prints how many cases there are of each number, how many
 // answers are the recorded ones in number, value and all lent output, and each case that is not. README.md has the format.
+use edits::Edited;
+use edits::set_place;
 use findings::Found;
 use findings::Log;
 use findings::optional_ie_order_findings;
@@ -18,7 +20,9 @@ const LENT: u8 = 0xa5;
 
 const LENT_NUMBER: u32 = 0xa5a5_a5a5;
 
-// The kind of a case that asks for findings; any other is a writing.
+// Kinds of a case: a setting with a writing behind it, and findings; any other is a writing.
+const SETTING: u8 = 2;
+
 const FINDINGS: u8 = 6;
 
 // Where the recorded answers are counted: behind all numbers.
@@ -35,12 +39,24 @@ struct Case {
     rows_at: usize,
     received_at: usize,
     set_at: usize,
+    set_used: usize,
     kept_at: usize,
     order_at: usize,
     output_at: usize,
     said_at: usize,
     written_at: usize,
     end: usize,
+}
+
+// A setting: where its parts stand, and the rows and set octets that it left.
+struct Setting {
+    rows_at: usize,
+    received_at: usize,
+    set_at: usize,
+    place_at: usize,
+    said_at: usize,
+    rows_after_at: usize,
+    set_after_at: usize,
 }
 
 fn octet(list: &[u8], at: usize) -> u8 {
@@ -132,6 +148,7 @@ fn writing_at(list: &[u8], at: usize) -> Case {
         rows_at: rows_at,
         received_at: received_at,
         set_at: set_at,
+        set_used: used(list, set_at),
         kept_at: kept_at,
         order_at: order_at,
         output_at: output_at,
@@ -154,6 +171,7 @@ fn findings_at(list: &[u8], at: usize) -> Case {
         rows_at: at,
         received_at: at,
         set_at: at,
+        set_used: 0,
         kept_at: kept_at,
         order_at: order_at,
         output_at: output_at,
@@ -163,7 +181,59 @@ fn findings_at(list: &[u8], at: usize) -> Case {
     }
 }
 
+fn setting_at(list: &[u8], at: usize) -> Setting {
+    let rows_at = numbers_end(list, after(at, 2));
+    let received_at = numbers_end(list, rows_at);
+    let set_at = string_end(list, received_at);
+    let place_at = used_end(list, set_at);
+    let said_at = string_end(list, after(place_at, 4));
+    let rows_after_at = answer_end(list, said_at);
+    Setting {
+        rows_at: rows_at,
+        received_at: received_at,
+        set_at: set_at,
+        place_at: place_at,
+        said_at: said_at,
+        rows_after_at: rows_after_at,
+        set_after_at: numbers_end(list, rows_after_at),
+    }
+}
+
+// How many set octets are used behind a setting: its value, or as many as before.
+fn used_after(list: &[u8], e: Setting) -> usize {
+    if octet(list, e.said_at) == 0 {
+        return number(list, after(e.said_at, 6));
+    }
+    used(list, e.set_at)
+}
+
+// The writing behind a setting.
+fn behind_at(list: &[u8], at: usize) -> Case {
+    let e = setting_at(list, at);
+    let kept_at = string_end(list, e.set_after_at);
+    let order_at = used_end(list, kept_at);
+    let output_at = used_end(list, order_at);
+    let said_at = after(output_at, 4);
+    let written_at = answer_end(list, said_at);
+    Case {
+        table_at: after(at, 1),
+        rows_at: e.rows_after_at,
+        received_at: e.received_at,
+        set_at: e.set_after_at,
+        set_used: used_after(list, e),
+        kept_at: kept_at,
+        order_at: order_at,
+        output_at: output_at,
+        said_at: said_at,
+        written_at: written_at,
+        end: string_end(list, written_at),
+    }
+}
+
 fn case_at(list: &[u8], at: usize) -> Case {
+    if octet(list, at) == SETTING {
+        return behind_at(list, at);
+    }
     if octet(list, at) == FINDINGS {
         return findings_at(list, at);
     }
@@ -296,7 +366,7 @@ fn write<'a>(
     output: &mut [u8],
 ) -> Encoded {
     let number = octet(list, c.table_at);
-    let set_used = used(list, c.set_at);
+    let set_used = c.set_used;
     let kept_used = used(list, c.kept_at);
     let order_used = used(list, c.order_at);
     if number == LENT_TABLE {
@@ -416,7 +486,7 @@ fn fits(list: &[u8], at: usize, n: usize) -> bool {
 
 fn all_fit(list: &[u8], c: Case) -> bool {
     fits(list, c.received_at, 65536)
-        && fits(list, c.set_at, 256)
+        && fits(list, c.set_at, 66000)
         && fits(list, c.kept_at, 256)
         && fits(list, c.order_at, 66000)
 }
@@ -424,7 +494,7 @@ fn all_fit(list: &[u8], c: Case) -> bool {
 // A case in what there is room for; one that asks for more is not the recorded one.
 fn run_case(list: &[u8], c: Case) -> bool {
     let mut received = [0u8; 65536];
-    let mut set = [0u8; 256];
+    let mut set = [0u8; 66000];
     let mut kept = [0u8; 256];
     let mut order = [0u8; 66000];
     if !all_fit(list, c) {
@@ -478,7 +548,7 @@ fn recorded_or_lent(list: &[u8], at: usize, is_recorded: bool) -> u32 {
     LENT_NUMBER
 }
 
-// Whether lent findings hold numbers, and what they held before behind them.
+// Whether lent numbers are the recorded ones, and what was lent behind them.
 fn numbers_are(list: &[u8], at: usize, s: &[u32]) -> bool {
     let n = counted(list, at);
     let mut p = after(at, 2);
@@ -550,9 +620,104 @@ fn run_findings(list: &[u8], c: Case) -> bool {
     )
 }
 
+// ---- settings
+
+fn edited_is(list: &[u8], at: usize, edited: Edited) -> bool {
+    match edited {
+        Edited::Set(n) => one_is(list, at, 0, n as u64),
+        Edited::Cleared => none_is(list, at, 0),
+        Edited::BadTable(row) => one_is(list, at, 4, row as u64),
+        Edited::TooLong => none_is(list, at, 3),
+        Edited::NoRoom => one_is(list, at, 2, 1),
+        Edited::Malformed => one_is(list, at, 11, 3),
+        Edited::Unfit(place) => one_is(list, at, 10, place as u64),
+        Edited::NoSet(need) => one_is(list, at, 12, need as u64),
+    }
+}
+
+fn judge_setting(
+    list: &[u8],
+    e: Setting,
+    table: &[u32],
+    rows: &mut [u32],
+    received: &[u8],
+    set: &mut [u8],
+    value: &[u8],
+) -> bool {
+    let set_used = used(list, e.set_at);
+    let place = number(list, e.place_at);
+    let edited = set_place(table, rows, received, set, set_used, place, value);
+    let is_edited = edited_is(list, e.said_at, edited);
+    let are_rows = numbers_are(list, e.rows_after_at, rows);
+    let is_set = output_is(list, e.set_after_at, set);
+    is_edited && are_rows && is_set
+}
+
+fn set_fronts(
+    list: &[u8],
+    e: Setting,
+    cells: usize,
+    table: &[u32],
+    rows: &mut [u32],
+    received: &[u8],
+    set: &mut [u8],
+    value: &[u8],
+) -> bool {
+    let places = counted(list, e.rows_at);
+    let n = string_len(list, e.set_at);
+    if cells > table.len() {
+        return false;
+    }
+    if places > rows.len() {
+        return false;
+    }
+    if n > set.len() {
+        return false;
+    }
+    judge_setting(
+        list,
+        e,
+        &table[..cells],
+        &mut rows[..places],
+        received,
+        &mut set[..n],
+        value,
+    )
+}
+
+fn run_setting(list: &[u8], at: usize, e: Setting) -> bool {
+    let mut table = [0u32; 64];
+    let mut rows = [0u32; 128];
+    let mut received = [0u8; 256];
+    let mut set = [0u8; 66000];
+    let mut value = [0u8; 512];
+    let value_at = after(e.place_at, 4);
+    if !(fits(list, e.received_at, 256) && fits(list, value_at, 512)) {
+        return false;
+    }
+    get_numbers(list, after(at, 2), &mut table);
+    get_numbers(list, e.rows_at, &mut rows);
+    get_string(list, e.received_at, &mut received);
+    get_string(list, e.set_at, &mut set);
+    get_string(list, value_at, &mut value);
+    set_fronts(
+        list,
+        e,
+        counted(list, after(at, 2)),
+        &table,
+        &mut rows,
+        part(&received, 0, string_len(list, e.received_at)),
+        &mut set,
+        part(&value, 0, string_len(list, value_at)),
+    )
+}
+
 // ---- all cases
 
 fn run_any(list: &[u8], at: usize, c: Case) -> bool {
+    if octet(list, at) == SETTING {
+        return run_setting(list, at, setting_at(list, at)) && run_case(list, c);
+    }
     if octet(list, at) == FINDINGS {
         return run_findings(list, c);
     }
@@ -617,7 +782,7 @@ fn run_all(list: &[u8]) {
 }
 
 fn main() {
-    let mut list = [0u8; 131072];
+    let mut list = [0u8; 262144];
     let n = io::read_full(0, &mut list);
     run_all(part(&list, 0, n));
 }
