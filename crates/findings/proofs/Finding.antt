@@ -11,13 +11,14 @@ use lib.ListN.{length, getD, length-append, length-take}
 use lib.Dec.{ltb, eqb, eqb·suc-zero}
 use Rattle.definitions.specs.Basic.{pick, isNone, concat, Answer, answer, refusal, refuse, unless, Used, content, tooLong, mostLog, over}
 use Rattle.definitions.specs.Rows.{Row, rowsOf, firstBad, ieiOf, placeIn, index}
-use Rattle.definitions.specs.Logs.{Placed, knownIei, notKnown, ignored, byForm, again, late, keptList, orderList, orEmpty, asking, keptCount, orderGet, entryAt}
+use Rattle.definitions.specs.Logs.{Placed, knownIei, notKnown, ignored, byForm, again, late, keptList, orderList, orEmpty}
 use Rattle.definitions.specs.Findings.{reasonKind, findingsFrom, findings, Noted, finding}
 use Rattle.definitions.proofs.TableLaws.{index-same}
 use Rattle.definitions.proofs.LogSteps.{keptFrom, orderFrom, restOf, keptAfter}
-use Rattle.definitions.proofs.Logs.{asking-bad, asking-done}
+use Rattle.logs.specs.Checks.{Checked}
+use Rattle.logs.specs.declared.Logs.{Logs}
 use Rattle.findings.specs.Findings.{foundAs, Finds, kindOf, highAfter, foundOf, findingsIn, unnoted, notedIn, findingIn}
-use Rattle.findings.specs.Walks.{Logs, allIn}
+use Rattle.findings.specs.Walks.{WellFormed, allIn}
 use Rattle.findings.specs.declared.Found.{Found}
 
 -- ---- the findings
@@ -73,24 +74,6 @@ pairs ix n high (p ∷ ps) kept =
     rw (concat-append f r, length-append (concat f) (concat r), length-append f r)
     (omega (arith, found-pair n (kindOf ix high p kept), pairs ix (suc n) (highAfter ix high p) ps (keptAfter p kept)))
 
--- ---- a malformed log, by the answer to a question
-
-asked-bad : (u : Used) (bad : Bool) (which : ℕ) (said : List ℕ) → tooLong mostLog u ≡ false → eqb (asking u bad which said .number) 11 ≡ bad
-asked-bad u true which said h = rw (asking-bad u true which said h refl)
-asked-bad u false which said h = rw (asking-done u false which said h refl)
-
-module _ (u : Used) (h : tooLong mostLog u ≡ false) {a : Answer} where
-  pub order-bad : (k : ℕ) → a ≡ orderGet u k → eqb (a .number) 11 ≡ isNone (orderList (content u))
-  unfolding orderGet
-  order-bad k e =
-      ap (λ (x : Answer). eqb (x .number) 11) e ∙ asked-bad u (isNone (orderList (content u))) 1 (entryAt k (orEmpty (orderList (content u)))) h
-
-  pub kept-bad : a ≡ keptCount u → eqb (a .number) 11 ≡ isNone (keptList (content u))
-  unfolding keptCount
-  kept-bad e =
-      ap (λ (x : Answer). eqb (x .number) 11) e
-      ∙ asked-bad u (isNone (keptList (content u))) 2 (length (orEmpty (keptList (content u))) ∷ []) h
-
 -- ---- logs that pass their checks
 
 pub within-limit : (most : ℕ) (u : Used) → tooLong most u ≡ false → (u .used ≤ length (u .buffer)) × (u .used ≤ most)
@@ -107,7 +90,7 @@ unfolding isNone orEmpty
 formed none e = absurd (false≢true (sym e))
 formed (some xs) e = refl
 
-pub logs-formed : (order kept : Used) → tooLong mostLog order ≡ false → isNone (orderList (content order)) ≡ false → isNone (keptList (content kept)) ≡ false → Logs (content order) (content kept)
+pub logs-formed : (order kept : Used) → tooLong mostLog order ≡ false → isNone (orderList (content order)) ≡ false → isNone (keptList (content kept)) ≡ false → WellFormed (content order) (content kept)
 unfolding content orderFrom keptFrom
 logs-formed order kept h e f =
     record {
@@ -115,6 +98,25 @@ logs-formed order kept h e f =
       kept-at = record { inside = omega arith; formed = formed (keptList (content kept)) f };
       short = simp length-take (omega (arith, within-limit mostLog order h .1));
     }
+
+-- what the check of both says, of their used octets
+is-none : {X : Type 0} (o : Option X) → o ≡ none → isNone o ≡ true
+unfolding isNone
+is-none o e = rw e
+
+is-some : {X : Type 0} (o : Option X) {x : X} → o ≡ some x → isNone o ≡ false
+unfolding isNone
+is-some o e = rw e
+
+module _ (order kept : Used) where
+  pub said-order : Checked (content order) (content kept) Logs.Order → isNone (orderList (content order)) ≡ true
+  said-order e = is-none (orderList (content order)) e
+
+  pub said-kept : Checked (content order) (content kept) Logs.Kept → (isNone (orderList (content order)) ≡ false) × (isNone (keptList (content kept)) ≡ true)
+  said-kept e = (is-some (orderList (content order)) (e .0 .1), is-none (keptList (content kept)) (e .1))
+
+  pub said-formed : {n : ℕ} → Checked (content order) (content kept) (Logs.Formed n) → (isNone (orderList (content order)) ≡ false) × (isNone (keptList (content kept)) ≡ false)
+  said-formed e = (is-some (orderList (content order)) (e .order-is), is-some (keptList (content kept)) (e .kept-is))
 
 -- ---- the answers
 

@@ -16,7 +16,7 @@ use Rattle.definitions.proofs.Lists.{over-none, over-next, length-overAt}
 use Rattle.definitions.proofs.LogSteps.{keptFrom, KeptAt, orderFrom, restOf, keptAfter, order-split, order-next, order-over}
 use Rattle.definitions.proofs.Orders.{orderFront}
 use Rattle.findings.specs.Findings.{kindOf, highAfter, foundOf, findingsIn}
-use Rattle.findings.specs.Walks.{Logs, ElementAt, unmoved, JudgedAs, Walking, leftIn, allIn, Stepped}
+use Rattle.findings.specs.Walks.{WellFormed, ElementAt, unmoved, JudgedAs, Walking, leftIn, allIn, Stepped}
 use Rattle.findings.specs.declared.walk.Walk.{Walk}
 use Rattle.findings.specs.declared.walk.Judged.{Judged}
 use Rattle.findings.specs.declared.walk.Step.{Step}
@@ -87,10 +87,10 @@ abbrev pub startWalk : Walk
 startWalk = record { order = 0; kept = 0; entry = 0; highest = 0 }
 
 module _ (ix order kept : List ℕ) where
-  pub begun : Logs order kept → Walking order kept startWalk
+  pub begun : WellFormed order kept → Walking order kept startWalk
   begun l = record { order-at = l .order-at; kept-at = l .kept-at; few = omega arith }
 
-  pub count-begun : Logs order kept → Counting ix order kept startWalk 0
+  pub count-begun : WellFormed order kept → Counting ix order kept startWalk 0
   unfolding leftIn allIn
   count-begun l = record { walking = begun l; few = omega arith; sums = omega arith }
 
@@ -125,7 +125,7 @@ pub record Putting (ix order kept lent : List ℕ) (w : Walk) (n : ℕ) (d : Lis
   pub gives : overAt n (concat (leftIn ix order kept w)) d ≡ over (concat (allIn ix order kept)) lent
 
 module _ (ix order kept lent : List ℕ) where
-  pub put-begun : Logs order kept → length (concat (allIn ix order kept)) ≤ length lent → Putting ix order kept lent startWalk 0 lent
+  pub put-begun : WellFormed order kept → length (concat (allIn ix order kept)) ≤ length lent → Putting ix order kept lent startWalk 0 lent
   unfolding leftIn allIn overAt
   put-begun l h = record { walking = begun ix order kept l; long = refl; room = omega arith; gives = refl }
 

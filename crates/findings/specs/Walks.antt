@@ -13,7 +13,7 @@ use Rattle.findings.specs.declared.walk.Judged.{Judged}
 use Rattle.findings.specs.declared.walk.Step.{Step}
 
 -- two logs that are well formed, and within their limit
-pub record Logs (order kept : List ℕ) : Type 0 where
+pub record WellFormed (order kept : List ℕ) : Type 0 where
   pub order-at : OrderAt order 0
   pub kept-at : KeptAt kept 0
   pub short : length order ≤ mostLog

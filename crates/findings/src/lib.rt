@@ -3,22 +3,16 @@ mod walk;
 
 use crate::walk::count_findings;
 use crate::walk::put_findings;
-use kept::Counted;
 use kept::MOST_LOG;
-use kept::kept_count;
 use kept::too_long;
-use order::Entry;
-use order::order_get;
+use logs::Logs;
+use logs::check_logs;
 use rows::check::Checked;
 use rows::check::check_and_index;
-ghost use mathlib.Core.Path.{_≡_};
-ghost use mathlib.Core.Bool.{false};
-ghost use Rattle.definitions.specs.Basic.{content, tooLong, mostLog, isNone};
-ghost use Rattle.definitions.specs.Logs.{orderList, keptList};
 ghost use Rattle.definitions.specs.Findings.{finding};
 ghost use Rattle.kept.specs.Kept.{usedOf};
 ghost use Rattle.findings.specs.Findings.{Finds, findingIn, notedIn};
-ghost use Rattle.findings.specs.Walks.{Logs, allIn};
+ghost use Rattle.findings.specs.Walks.{WellFormed, allIn};
 
 // Which log is malformed.
 pub enum Log {
@@ -35,33 +29,9 @@ pub enum Found {
     NoRoom,
 }
 
-// Whether a log, whose used count is not too long, is malformed.
-fn order_malformed(log: &[u8], used: usize) -> bool
-    requires { ⌜ tooLong mostLog (usedOf (now log) used) ≡ false ⌝ }
-    ensures { λ r. ⌜ r ≡ isNone (orderList (content (usedOf (now (log .entry)) used))) ⌝ }
-{
-    match order_get(log, used, 0) {
-        Entry::Is(_) => false,
-        Entry::PastLast => false,
-        Entry::TooLong => false,
-        Entry::Malformed => true,
-    }
-}
-
-fn kept_malformed(log: &[u8], used: usize) -> bool
-    requires { ⌜ tooLong mostLog (usedOf (now log) used) ≡ false ⌝ }
-    ensures { λ r. ⌜ r ≡ isNone (keptList (content (usedOf (now (log .entry)) used))) ⌝ }
-{
-    match kept_count(log, used) {
-        Counted::Elements(_) => false,
-        Counted::TooLong => false,
-        Counted::Malformed => true,
-    }
-}
-
 // By two logs that are well formed: counted first, and written if there is room for all.
 fn find(index: &[u8], order: &[u8], kept: &[u8], findings: &mut [u32]) -> Found
-    requires { ⌜ Logs (now order) (now kept) ⌝ }
+    requires { ⌜ WellFormed (now order) (now kept) ⌝ }
     ensures { λ r. ⌜ Finds (notedIn (allIn (now (index .entry)) (now (order .entry)) (now (kept .entry))) (now (findings .entry))) r (now (findings .exit)) ⌝ }
 {
     let n = count_findings(index, order, kept);
@@ -89,13 +59,11 @@ fn find_by_index(
     if too_long(kept, kept_used, MOST_LOG) {
         return Found::TooLong;
     }
-    if order_malformed(order, order_used) {
-        return Found::Malformed(Log::Order);
+    match check_logs(&order[..order_used], &kept[..kept_used]) {
+        Logs::Formed(_) => find(index, &order[..order_used], &kept[..kept_used], findings),
+        Logs::Order => Found::Malformed(Log::Order),
+        Logs::Kept => Found::Malformed(Log::Kept),
     }
-    if kept_malformed(kept, kept_used) {
-        return Found::Malformed(Log::Kept);
-    }
-    find(index, &order[..order_used], &kept[..kept_used], findings)
 }
 
 // `optional_ie_order_findings`: two numbers each, an entry's number and its kind, into the front of the lent findings.

@@ -20,7 +20,7 @@ ghost use Rattle.definitions.specs.Findings.{reasonKind};
 ghost use Rattle.definitions.proofs.LogSteps.{KeptAt};
 ghost use Rattle.order.specs.Order.{reasonAs, placedAs};
 ghost use Rattle.findings.specs.Findings.{foundOf};
-ghost use Rattle.findings.specs.Walks.{Logs, allIn, NextIs, JudgedAs, unmoved, Walking, Stepped};
+ghost use Rattle.findings.specs.Walks.{WellFormed, allIn, NextIs, JudgedAs, unmoved, Walking, Stepped};
 
 // Where the walk is: the positions in the two logs, the number of the entry there, and the highest place so far.
 pub struct Walk {
@@ -193,7 +193,7 @@ fn next_entry(index: &[u8], order: &[u8], kept: &[u8], w: Walk) -> Step
 
 // How many findings there are.
 pub(crate) fn count_findings(index: &[u8], order: &[u8], kept: &[u8]) -> usize
-    requires { ⌜ Logs (now order) (now kept) ⌝ }
+    requires { ⌜ WellFormed (now order) (now kept) ⌝ }
     ensures { λ r. ⌜ (r ≡ length (allIn (now (index .entry)) (now (order .entry)) (now (kept .entry)))) × (r ≤ length (now (order .entry))) ⌝ }
 {
     let mut w = Walk {
@@ -229,7 +229,7 @@ fn put_found(findings: &mut [u32], at: usize, entry: usize, kind: u32) -> usize
 
 // All findings into the front of a buffer that has room for them.
 pub(crate) fn put_findings(index: &[u8], order: &[u8], kept: &[u8], findings: &mut [u32])
-    requires { ⌜ Logs (now order) (now kept) × (length (concat (allIn (now index) (now order) (now kept))) ≤ length (now findings)) ⌝ }
+    requires { ⌜ WellFormed (now order) (now kept) × (length (concat (allIn (now index) (now order) (now kept))) ≤ length (now findings)) ⌝ }
     ensures { λ r. ⌜ now (findings .exit) ≡ over (concat (allIn (now (index .entry)) (now (order .entry)) (now (kept .entry)))) (now (findings .entry)) ⌝ }
 {
     let mut w = Walk {

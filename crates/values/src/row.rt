@@ -2,8 +2,8 @@
 use octets::part;
 use rows::columns::Form;
 ghost use mathlib.Core.Path.{_≡_};
-ghost use Prim.Native.Nat.{_<_};
-ghost use lib.ListN.{getD};
+ghost use Prim.Native.Nat.{_*_, _<_};
+ghost use lib.ListN.{getD, drop};
 ghost use Rattle.definitions.specs.Values.{valueAt, octetsAt, goodValue, badRows, fits};
 ghost use Rattle.rows.specs.Forms.{formAs};
 ghost use Rattle.values.specs.Rows.{valueOf, sourcesOf};
@@ -15,32 +15,36 @@ pub struct ValueRow {
     pub len: u32,
 }
 
-// A number of the rows; 0 where there is none.
-fn number(rows: &[u32], at: usize) -> u32
-    ensures { λ r. ⌜ r ≡ getD (now (rows .entry)) at 0 ⌝ }
+// A number of a place's row, also of one that the rows do not have whole; 0 where there is none.
+fn number(rows: &[u32], place: usize, column: usize) -> u32
+    ensures { λ r. ⌜ r ≡ getD (drop (3 * place) (now (rows .entry))) column 0 ⌝ }
 {
-    if at < rows.len() {
-        return rows[at];
+    if place > rows.len() / 3 {
+        return 0;
     }
-    0
+    let start = 3 * place;
+    if column >= rows.len() - start {
+        return 0;
+    }
+    rows[start + column]
 }
 
-// The numbers of a place's row; 0 where there are none.
+// The numbers of a place's row, at once where the rows have it whole; 0 where there are none.
 pub fn row_at(rows: &[u32], place: usize) -> ValueRow
     ensures { λ r. ⌜ valueOf r ≡ valueAt (now (rows .entry)) place ⌝ }
 {
-    if place > rows.len() / 3 {
+    if place < rows.len() / 3 {
+        let at = 3 * place;
         return ValueRow {
-            source: 0,
-            start: 0,
-            len: 0,
+            source: rows[at],
+            start: rows[at + 1],
+            len: rows[at + 2],
         };
     }
-    let at = 3 * place;
     ValueRow {
-        source: number(rows, at),
-        start: number(rows, at + 1),
-        len: number(rows, at + 2),
+        source: number(rows, place, 0),
+        start: number(rows, place, 1),
+        len: number(rows, place, 2),
     }
 }
 

@@ -22,6 +22,24 @@ use Rattle.writing.specs.Walks.{addedIn, addedPiece, addedOctets, nextOf
 module _ (m : Filled) (s : ℕ) where
   -- ---- a place at a time
 
+  -- nothing of an absent or a logged place; of another its element under its first IEI
+  module _ (k : ℕ) where
+    pub piece-added : bit k s ≡ false → addedPiece m s k ≡ elementAt m k (firstIei (m .table) k)
+    unfolding addedPiece
+    piece-added e = rw e
+
+    pub piece-logged : bit k s ≡ true → addedPiece m s k ≡ []
+    unfolding addedPiece
+    piece-logged e = rw e
+
+    pub piece-absent : elementAt m k (firstIei (m .table) k) ≡ [] → addedPiece m s k ≡ []
+    unfolding addedPiece
+    piece-absent e = rw e (by (bit k s))
+      where
+        by : (b : Bool) → pick {X = List ℕ} b [] [] ≡ []
+        by true = refl
+        by false = refl
+
   added-step : (k n : ℕ) → firsts m (addedIn m s k (suc n)) ≡ addedPiece m s k ++ firsts m (addedIn m s (suc k) n)
   unfolding addedPiece addedIn firsts elementAt
   added-step k n = by (present (valueAt (m .rows) k)) (bit k s) refl

@@ -3,6 +3,7 @@ pub mod Putting
 pub mod Cursor
 pub mod Places
 pub mod Tallying
+pub mod Surveying
 pub mod Walking
 pub mod Encoding
 pub mod SameAnswers

@@ -5,11 +5,15 @@ use native.Mathlib.Omega.{arith}
 use mathlib.Core.Path.{_≡_, refl, ap, sym, _∙_}
 use mathlib.Core.List.{List, []}
 use mathlib.Core.Bool.{Bool, true, false, not, false≢true}
+use mathlib.Core.Option.{none}
 use borrow.Author.Tests.{le-leb}
 use lib.ListN.{length, length-take, length-drop}
-use Rattle.definitions.specs.Rows.{Form, half, fixed, tlv, tlv-e, rowsOf, rowAt, form}
+use Rattle.definitions.specs.Rows.{Form, half, fixed, tlv, tlv-e, rowsOf, rowAt, form, formOf, firstBad}
 use Rattle.definitions.specs.Values.{Octets, Value, valueAt, present, sourceOf, octetsAt, fits, unfitAt}
 use Rattle.definitions.specs.Writing.{encoded, elementAt}
+use Rattle.rows.specs.Numbers.{numbersAt}
+use Rattle.rows.specs.declared.columns.Numbers.{Numbers}
+use Rattle.rows.proofs.WholeRows.{whole-rows}
 use Rattle.values.specs.Rows.{valueOf, sourcesOf}
 use Rattle.values.specs.declared.row.ValueRow.{ValueRow}
 use Rattle.writing.specs.Walks.{filledOf}
@@ -28,6 +32,11 @@ takes-most (fixed k) n h = omega arith
 takes-most tlv n h = omega arith
 takes-most tlv-e n h = omega arith
 
+-- the form by the numbers of a row, of a table that passes
+pub form-there : (table : List ℕ) (k : ℕ) {n : Numbers} {f : Form} → firstBad (rowsOf table) ≡ none → n ≡ numbersAt table k → f ≡ formOf (n .code) (n .size) → f ≡ form (rowAt (rowsOf table) k)
+unfolding form
+form-there table k p e q = let w = whole-rows table p in q ∙ rw (e, w .code k, w .size k)
+
 module _ (received set : List ℕ) (r : length received ≤ 65535) (s : length set ≤ 65535) where
   source-short : (source : ℕ) → length (sourceOf (sourcesOf received set) source) ≤ 65535
   unfolding sourceOf
@@ -39,9 +48,13 @@ module _ (received set : List ℕ) (r : length received ≤ 65535) (s : length s
   unfolding octetsAt
   octets-short v = simp (length-take, length-drop) (omega (arith, source-short (v .source)))
 
-not-false : (b : Bool) → not b ≡ false → b ≡ true
+pub not-false : (b : Bool) → not b ≡ false → b ≡ true
 not-false true h = refl
 not-false false h = absurd (false≢true (sym h))
+
+pub not-true : (b : Bool) → not b ≡ true → b ≡ false
+not-true true h = absurd (false≢true h)
+not-true false h = refl
 
 module _ (table rows received set : List ℕ) (k : ℕ) (row : ValueRow) (e : valueOf row ≡ valueAt rows k) where
   abbrev o : Octets

@@ -11,12 +11,16 @@ use lib.Seq.{take-all}
 use lib.Dec.{eqb, leb}
 use borrow.Rule.Slice.PartMut.{putMid}
 use Rattle.definitions.specs.Basic.{over, overAt}
-use Rattle.definitions.specs.Rows.{Form, half, fixed, tlv, tlv-e}
-use Rattle.definitions.specs.Values.{fits}
+use Rattle.definitions.specs.Rows.{Form, half, fixed, tlv, tlv-e, rowsOf, rowAt, form}
+use Rattle.definitions.specs.Values.{valueAt, octetsAt, fits}
+use Rattle.definitions.specs.Writing.{encoded, elementAt}
 use Rattle.definitions.proofs.RowLaws.{Bears, both}
 use Rattle.definitions.proofs.Lists.{over-next, over-none, lent-over, put-behind, length-over, length-overAt}
+use Rattle.values.specs.Rows.{valueOf, sourcesOf}
+use Rattle.values.specs.declared.row.ValueRow.{ValueRow}
 use Rattle.writing.specs.Puts.{Writes, PutAt}
-use Rattle.writing.specs.Walks.{Left}
+use Rattle.writing.specs.Walks.{filledOf, Writable, Left}
+use Rattle.writing.proofs.Places.{there, fits-there}
 
 pub put-begun : (at : ℕ) (piece before : List ℕ) → Left at piece before at piece before
 put-begun at piece before = record { long = refl; room = refl; gives = refl }
@@ -98,3 +102,14 @@ bears-octet half iei b = omega (arith, b .1)
 bears-octet (fixed n) iei b = omega arith
 bears-octet tlv iei b = omega arith
 bears-octet tlv-e iei b = omega arith
+
+-- the element of a present place under an IEI of its form, as the code has it: by the form and the octets that its row names
+module _ (table rows received set : List ℕ) (k iei : ℕ) (row : ValueRow) (e : valueOf row ≡ valueAt rows k) (n : row .source ≡ 0 → ⊥) where
+  abbrev f : Form
+  f = form (rowAt (rowsOf table) k)
+
+  pub piece-there : {g : Form} {s : List ℕ} → g ≡ f → s ≡ octetsAt (sourcesOf received set) (valueOf row) → elementAt (filledOf table rows received set) k iei ≡ encoded g iei s
+  piece-there p q = rw (p, q) (there table rows received set k row e n iei)
+
+  pub writes-there : {g : Form} {s : List ℕ} → Writable table rows received set → k < length (rowsOf table) → Bears f iei → g ≡ f → s ≡ octetsAt (sourcesOf received set) (valueOf row) → Writes g iei s
+  writes-there w h b p q = rw (p, q) (writes-fit f (row .source) (octetsAt (sourcesOf received set) (valueOf row)) iei (fits-there table rows received set k row e n (w .fit k h)) b)

@@ -1,36 +1,32 @@
--- Both logs measured an entry at a time: with what is left the tally is that of the whole log.
+-- The order log measured an entry at a time: with what is left the tally is that of the whole log.
 -- Each step moves an entry from what is left into the tally; a log that is malformed further on is malformed.
-use Prim.Native.Nat.{ℕ, suc, _+_, _-_, _*_, _/_, _^_, _≤_, _<_}
+use Prim.Native.Nat.{ℕ, _+_, _*_, _/_, _^_, _≤_, _<_}
 use native.Mathlib.Omega.{arith}
-use native.Mathlib.Numerals.{add-one}
 use native.Mathlib.Nat.{div-add-mod', zero-div}
 use mathlib.Core.Path.{_≡_, refl, ap, sym, _∙_}
 use mathlib.Core.List.{List, [], _∷_}
 use mathlib.Core.Bool.{Bool, true, false, _||_}
 use mathlib.Core.Option.{Option, none, some}
 use borrow.Author.Tests.{lt-ltb}
-use lib.ListN.{length, take, drop, length-take, length-drop, length-append}
+use lib.ListN.{length, drop, length-drop}
 use lib.Dec.{eqb}
-use Rattle.definitions.specs.Basic.{pick, bit, among, concat}
+use Rattle.definitions.specs.Basic.{pick, bit, among}
 use Rattle.definitions.specs.Rows.{Row, form, rowAt, rowsOf, firstBad, placeOf, placeIn}
 use Rattle.definitions.specs.Elements.{including}
-use Rattle.definitions.specs.Values.{valueAt, present, octetsAt, firstFrom}
-use Rattle.definitions.specs.Logs.{Placed, knownIei, notKnown, ignored, Reason, Count, put, keptList, orderEntry, orderList}
+use Rattle.definitions.specs.Values.{valueAt, present, octetsAt}
+use Rattle.definitions.specs.Logs.{Placed, knownIei, notKnown, ignored, Reason, put, orderEntry, orderList}
 use Rattle.definitions.specs.Writing.{Filled, encoded, elementAt, logged}
 use Rattle.definitions.proofs.BitLaws.{bit-including}
-use Rattle.definitions.proofs.Logs.{kept-nil}
 use Rattle.definitions.proofs.Orders.{order-nil}
 use Rattle.definitions.proofs.RowLaws.{listed}
 use Rattle.definitions.proofs.TableLaws.{few-places, index-place}
 use Rattle.definitions.proofs.WriteLaws.{loggedLength}
-use Rattle.definitions.proofs.LogSteps.{KeptEntry, OrderEntry}
+use Rattle.definitions.proofs.LogSteps.{OrderEntry}
 use Rattle.seen.specs.Seen.{setOf, seenOf, includingPlace}
 use Rattle.seen.specs.declared.Seen.{Seen}
 use Rattle.writing.specs.Walks.{IndexIs}
-use Rattle.writing.specs.Sizes.{placeLength, mostIe, knownLength, knownSet, entryLength, entrySet, Tallied, Tells, LoggedBy, KeptBy}
+use Rattle.writing.specs.Sizes.{placeLength, mostIe, knownLength, knownSet, entryLength, entrySet, Tallied, Tells, LoggedBy}
 use Rattle.writing.specs.declared.sizes.Tally.{Tally}
-use Rattle.writing.specs.declared.sizes.Logged.{Logged}
-use Rattle.writing.specs.declared.sizes.Kept.{Kept}
 use Rattle.writing.proofs.Places.{encoded-length}
 
 -- ---- an entry
@@ -110,6 +106,9 @@ places-more t (ignored r) ps j set = refl
 
 -- ---- the order log
 
+pub never-none : {X : Type 0} {x : X} → none ≡ some x → ⊥
+never-none e = let z : _≡_ {A = ℕ} 0 1 = cc in omega arith
+
 bit-zero : (k : ℕ) → bit k 0 ≡ false
 unfolding bit
 bit-zero k = let z : 0 / 2 ^ k ≡ 0 = zero-div (2 ^ k) in rw z
@@ -155,60 +154,5 @@ module _ (m : Filled) (order : List ℕ) where
               };
         }
 
-    pub logging-ended : length order ≤ at → LoggedBy m order (Logged.Is t)
+    pub logging-ended : length order ≤ at → LoggedBy m order t
     logging-ended h = (let e : at ≡ length order = omega (arith, l .inside) in rw e at (l .few), l .good [] (order-nil (drop at order) (simp length-drop (omega arith))))
-
--- ---- the kept log
-
-pub record Whole (kept : List ℕ) (octets : ℕ) (es : List (List ℕ)) : Type 0 where
-  pub all : List (List ℕ)
-  pub is : keptList kept ≡ some all
-  pub sum : octets + length (concat es) ≡ length (concat all)
-
-pub record Keeping (kept : List ℕ) (at octets : ℕ) : Type 0 where
-  pub inside : at ≤ length kept
-  pub few : octets ≤ at
-  pub bad : keptList (drop at kept) ≡ none → keptList kept ≡ none
-  pub good : (es : List (List ℕ)) → keptList (drop at kept) ≡ some es → Whole kept octets es
-
-module _ (kept : List ℕ) where
-  pub keeping-begun : Keeping kept 0 0
-  keeping-begun = record { inside = omega arith; few = omega arith; bad = λ e. e; good = λ es e. record { all = es; is = e; sum = omega arith } }
-
-  module _ (at octets : ℕ) (l : Keeping kept at octets) where
-    pub keeping-step : {c : Count} → KeptEntry kept at c → Keeping kept (at + (c .took + c .value)) (octets + c .value)
-    unfolding put concat
-    keeping-step {c = c} k =
-        let z : at + (c .took + c .value) ≡ at + c .took + c .value = omega arith in
-        let e : List ℕ = take (c .value) (drop (at + c .took) kept) in
-        let n : length e ≡ c .value = simp (length-take, length-drop) (omega (arith, k .within)) in
-        rw z
-        (record {
-          inside = k .within;
-          few = omega (arith, k .count, l .few);
-          bad = λ q. l .bad (k .splits ∙ rw q);
-          good = λ es q.
-              let g = l .good (e ∷ es) (k .splits ∙ rw q) in
-              record { all = g .all; is = g .is; sum = omega (arith, g .sum, length-append e (concat es)) };
-        })
-
-    pub keeping-ended : length kept ≤ at → KeptBy kept (Kept.Octets octets)
-    unfolding concat
-    keeping-ended h =
-        let g = l .good [] (kept-nil (drop at kept) (simp length-drop (omega arith))) in
-        (omega (arith, l .inside, l .few), g .all, g .is, omega (arith, g .sum))
-
--- ---- the places
-
-module _ (test : ℕ → Bool) (k n : ℕ) where
-  pub first-here : k < n → test k ≡ true → firstFrom test k (n - k) ≡ some k
-  unfolding firstFrom
-  first-here h e = let z : n - k ≡ suc (n - suc k) = omega arith in rw (z, e)
-
-  pub first-further : k < n → test k ≡ false → firstFrom test (k + 1) (n - (k + 1)) ≡ firstFrom test k (n - k)
-  unfolding firstFrom
-  first-further h e = let z : n - k ≡ suc (n - (k + 1)) = omega arith in rw (z, e, add-one k)
-
-  pub first-over : n ≤ k → firstFrom test k (n - k) ≡ none
-  unfolding firstFrom
-  first-over h = let z : n - k ≡ 0 = omega arith in rw z

@@ -2,20 +2,21 @@
 use Prim.Native.Nat.{ℕ, _+_, _*_, _≤_}
 use mathlib.Core.Path.{_≡_}
 use mathlib.Core.List.{List, []}
-use mathlib.Core.Bool.{_||_}
+use mathlib.Core.Bool.{true, false, _||_}
 use mathlib.Core.Option.{Option, none, some}
 use lib.ListN.{length}
-use Rattle.definitions.specs.Basic.{bit, among, concat}
+use Rattle.definitions.specs.Basic.{bit, among}
 use Rattle.definitions.specs.Rows.{Row, Form, half, fixed, tlv, tlv-e, rowsOf, firstBad, placeOf, index}
 use Rattle.definitions.specs.Elements.{including}
-use Rattle.definitions.specs.Logs.{Placed, knownIei, notKnown, ignored, keptList, orderList}
-use Rattle.definitions.specs.Writing.{Filled, elementAt, logged}
+use Rattle.definitions.specs.Values.{valueAt, goodValue, badRows, unfitAt}
+use Rattle.definitions.specs.Logs.{Placed, knownIei, notKnown, ignored, orderList}
+use Rattle.definitions.specs.Writing.{Filled, elementAt, logged, unfit}
 use Rattle.definitions.proofs.WriteLaws.{loggedLength}
 use Rattle.seen.specs.Seen.{setOf}
+use Rattle.writing.specs.Walks.{addedOctets}
 use Rattle.writing.specs.declared.sizes.Tally.{Tally}
-use Rattle.writing.specs.declared.sizes.Logged.{Logged}
-use Rattle.writing.specs.declared.sizes.Kept.{Kept}
-use Rattle.writing.specs.declared.sizes.Fit.{Fit}
+use Rattle.writing.specs.declared.sizes.Looked.{Looked}
+use Rattle.writing.specs.declared.sizes.Surveyed.{Surveyed}
 
 -- how many octets an element takes with a value of so many
 abbrev pub takes : Form → ℕ → ℕ
@@ -73,18 +74,22 @@ pub record Tells (m : Filled) (order : List ℕ) (octets set : ℕ) (qs : List P
   pub sum : octets + loggedLength m qs ≡ loggedLength m ps
   pub places : (k : ℕ) → (among k (logged (m .table) qs) || bit k set) ≡ among k (logged (m .table) ps)
 
-abbrev pub LoggedBy : Filled → List ℕ → Logged → Type 0
-LoggedBy m order (Logged.Is t) = (t .octets ≤ mostIe * length order) × Tells m order (t .octets) (setOf (t .seen)) []
-LoggedBy m order Logged.Malformed = orderList order ≡ none
+abbrev pub LoggedBy : Filled → List ℕ → Tally → Type 0
+LoggedBy m order t = (t .octets ≤ mostIe * length order) × Tells m order (t .octets) (setOf (t .seen)) []
 
--- ---- the kept log
+-- ---- the places
 
-abbrev pub KeptBy : List ℕ → Kept → Type 0
-KeptBy kept (Kept.Octets n) = (n ≤ length kept) × (es : List (List ℕ)) × (keptList kept ≡ some es) × (n ≡ length (concat es))
-KeptBy kept Kept.Malformed = keptList kept ≡ none
+-- one place
+abbrev pub LookedAt : Filled → ℕ → Looked → Type 0
+LookedAt m k Looked.Bad = goodValue (m .octets) (valueAt (m .rows) k) ≡ false
+LookedAt m k Looked.Unfit = unfitAt (m .table) (m .octets) (m .rows) k ≡ true
+LookedAt m k (Looked.Takes n) =
+    (goodValue (m .octets) (valueAt (m .rows) k) ≡ true) × (unfitAt (m .table) (m .octets) (m .rows) k ≡ false) × (n ≡ placeLength m k) × (n ≤ mostIe)
 
--- ---- the values
-
-abbrev pub fitAs : Fit → Option ℕ
-fitAs Fit.All = none
-fitAs (Fit.Not k) = some k
+-- all of them, by the set of the logged ones
+abbrev pub SurveyedBy : Filled → ℕ → Surveyed → Type 0
+SurveyedBy m set Surveyed.Malformed = badRows (m .octets) (m .rows) (length (m .table)) ≡ true
+SurveyedBy m set (Surveyed.Unfit k) = (badRows (m .octets) (m .rows) (length (m .table)) ≡ false) × (unfit (m .table) (m .octets) (m .rows) ≡ some k)
+SurveyedBy m set (Surveyed.Added n) =
+    (badRows (m .octets) (m .rows) (length (m .table)) ≡ false) × (unfit (m .table) (m .octets) (m .rows) ≡ none)
+    × (n ≡ length (addedOctets m set 0 (length (m .table)))) × (n ≤ mostIe * 128)

@@ -1,14 +1,12 @@
 // Writing an optional part by a table.
-use crate::sizes::Fit;
-use crate::sizes::Kept;
-use crate::sizes::Logged;
-use crate::sizes::added_len;
-use crate::sizes::first_unfit;
-use crate::sizes::kept_len;
+use crate::sizes::Surveyed;
 use crate::sizes::logged_len;
+use crate::sizes::survey;
 use crate::walk::write;
 use kept::MOST_LOG;
 use kept::too_long;
+use logs::Logs;
+use logs::check_logs;
 use octets::MOST_OCTETS;
 use real::INDEX_P;
 use real::INDEX_PDU_SESSION_ESTABLISHMENT_ACCEPT;
@@ -27,12 +25,12 @@ use real::TABLE_P;
 use rows::check::Checked;
 use rows::check::check_and_index;
 use rows::columns::places;
-use values::row::any_bad;
 ghost use mathlib.Core.Path.{_≡_};
 ghost use mathlib.Core.Option.{none};
 ghost use Rattle.definitions.specs.Rows.{rowsOf, firstBad};
 ghost use Rattle.definitions.specs.Writing.{writing, writingBy};
 ghost use Rattle.kept.specs.Kept.{usedOf};
+ghost use Rattle.logs.specs.Checks.{Formed};
 ghost use Rattle.real.specs.Real.{realOf};
 ghost use Rattle.writing.specs.Walks.{IndexIs};
 ghost use Rattle.writing.specs.Encodes.{Encodes, usedUp, Limited};
@@ -56,7 +54,38 @@ pub enum Encoded {
     NoOutput(u64),
 }
 
-// By a table that passes and its index, of the octets that are used, with a row for each place.
+// By a table that passes and its index, of the octets that are used, with a row for each place and two logs that are well formed.
+fn encode_formed<'a>(
+    table: &[u32],
+    index: &[u8],
+    rows: &[u32],
+    received: &'a [u8],
+    set: &'a [u8],
+    kept: &[u8],
+    order: &[u8],
+    kept_octets: usize,
+    output: &mut [u8],
+) -> Encoded
+    requires { ⌜ Limited (now table) (now index) (now rows) (now received) (now set) (now kept) (now order) × Formed (now order) (now kept) «kept_octets» ⌝ }
+    ensures { λ r. ⌜ Encodes (writing (now (table .entry)) (now (rows .entry)) (now (received .entry)) (usedUp (now (set .entry))) (usedUp (now (order .entry))) (usedUp (now (kept .entry))) (now (output .entry))) r (now (output .exit)) ⌝ }
+{
+    let t = logged_len(table, index, rows, received, set, order);
+    let seen = t.seen;
+    match survey(table, rows, received, set, seen) {
+        Surveyed::Malformed => Encoded::Malformed(Which::Rows),
+        Surveyed::Unfit(k) => Encoded::Unfit(k),
+        Surveyed::Added(added) => {
+            let need = t.octets + kept_octets + added;
+            if output.len() < need {
+                return Encoded::NoOutput(need as u64);
+            }
+            write(table, index, rows, received, set, kept, order, seen, output);
+            Encoded::Done(need)
+        }
+    }
+}
+
+// The same of any two logs.
 fn encode_used<'a>(
     table: &[u32],
     index: &[u8],
@@ -70,25 +99,21 @@ fn encode_used<'a>(
     requires { ⌜ Limited (now table) (now index) (now rows) (now received) (now set) (now kept) (now order) ⌝ }
     ensures { λ r. ⌜ Encodes (writing (now (table .entry)) (now (rows .entry)) (now (received .entry)) (usedUp (now (set .entry))) (usedUp (now (order .entry))) (usedUp (now (kept .entry))) (now (output .entry))) r (now (output .exit)) ⌝ }
 {
-    let Logged::Is(tally) = logged_len(table, index, rows, received, set, order) else {
-        return Encoded::Malformed(Which::Order);
-    };
-    let Kept::Octets(kept_octets) = kept_len(kept) else {
-        return Encoded::Malformed(Which::Kept);
-    };
-    if any_bad(rows, places(table), received, set) {
-        return Encoded::Malformed(Which::Rows);
+    match check_logs(order, kept) {
+        Logs::Formed(octets) => encode_formed(
+            table,
+            index,
+            rows,
+            received,
+            set,
+            kept,
+            order,
+            octets,
+            output,
+        ),
+        Logs::Order => Encoded::Malformed(Which::Order),
+        Logs::Kept => Encoded::Malformed(Which::Kept),
     }
-    if let Fit::Not(k) = first_unfit(table, rows, received, set) {
-        return Encoded::Unfit(k);
-    }
-    let seen = tally.seen;
-    let need = tally.octets + kept_octets + added_len(table, rows, received, set, seen);
-    if output.len() < need {
-        return Encoded::NoOutput(need as u64);
-    }
-    write(table, index, rows, received, set, kept, order, seen, output);
-    Encoded::Done(need)
 }
 
 // By a table that passes its check, and its index.

@@ -1,34 +1,37 @@
-// What writing needs to know before an octet is written: whether the logs are well formed and the values fit, how many octets
-// there are to write, and which places the order log names.
-use kept::Count;
-use kept::entry_at;
+// What writing needs to know before an octet is written: whether the rows are well formed and the values fit, how many octets there
+// are to write, and which places the order log names.
 use order::Front;
 use order::Placed;
 use order::entry_len;
 use order::front_at;
 use rows::columns::Form;
-use rows::columns::form_at;
+use rows::columns::form_of;
+use rows::columns::numbers_at;
 use rows::columns::places;
 use rows::index::Place;
 use rows::index::place_of;
 use seen::Seen;
 use seen::seen_has;
 use seen::seen_with;
+use values::row::any_bad;
 use values::row::does_fit;
+use values::row::is_good;
 use values::row::row_at;
 use values::row::value_octets;
 ghost use mathlib.Core.Path.{_≡_};
-ghost use Prim.Native.Nat.{_≤_, _<_, _*_};
+ghost use mathlib.Core.Option.{none};
+ghost use Prim.Native.Nat.{_≤_, _<_};
 ghost use lib.ListN.{length};
-ghost use Rattle.definitions.specs.Rows.{rowsOf};
-ghost use Rattle.definitions.specs.Values.{unfitAt};
-ghost use Rattle.definitions.specs.Writing.{unfit};
+ghost use Rattle.definitions.specs.Basic.{pick, bit};
+ghost use Rattle.definitions.specs.Rows.{rowsOf, firstBad};
+ghost use Rattle.definitions.specs.Values.{badRows};
+ghost use Rattle.definitions.proofs.LogSteps.{OrderAt};
 ghost use Rattle.order.specs.Order.{placedAs};
 ghost use Rattle.seen.specs.Seen.{setOf};
 ghost use Rattle.values.specs.Rows.{sourcesOf};
 ghost use Rattle.rows.specs.Forms.{formAs};
-ghost use Rattle.writing.specs.Walks.{filledOf, addedPiece, addedOctets};
-ghost use Rattle.writing.specs.Sizes.{takes, placeLength, mostIe, Sized, Tallied, LoggedBy, KeptBy, fitAs};
+ghost use Rattle.writing.specs.Walks.{filledOf};
+ghost use Rattle.writing.specs.Sizes.{takes, placeLength, mostIe, Sized, Tallied, LoggedBy, LookedAt, SurveyedBy};
 
 // The octets of the elements under logged IEIs so far, and the places of these.
 pub struct Tally {
@@ -36,22 +39,19 @@ pub struct Tally {
     pub seen: Seen,
 }
 
-// What an order log says.
-pub enum Logged {
-    Is(Tally),
-    Malformed,
+// A place looked at: its row is malformed, its value does not fit, or so many octets are those of its element, none of an absent one.
+pub enum Looked {
+    Bad,
+    Unfit,
+    Takes(usize),
 }
 
-// The octets of all elements of a kept log.
-pub enum Kept {
-    Octets(usize),
+// What all places say: a row is malformed, a place is the lowest whose value does not fit, or so many octets are those of the added
+// elements.
+pub enum Surveyed {
     Malformed,
-}
-
-// The lowest place whose value does not fit its form.
-pub enum Fit {
-    All,
-    Not(usize),
+    Unfit(usize),
+    Added(usize),
 }
 
 // How many octets an element takes with a value of so many.
@@ -75,15 +75,16 @@ fn place_len<'a>(
     set: &'a [u8],
     place: usize,
 ) -> usize
-    requires { ⌜ (length (now received) ≤ 65535) × (length (now set) ≤ 65535) ⌝ }
+    requires { ⌜ (firstBad (rowsOf (now table)) ≡ none) × (length (now received) ≤ 65535) × (length (now set) ≤ 65535) ⌝ }
     ensures { λ r. ⌜ (r ≡ placeLength (filledOf (now (table .entry)) (now (rows .entry)) (now (received .entry)) (now (set .entry))) place) × (r ≤ mostIe) ⌝ }
 {
     let row = row_at(rows, place);
     if row.source == 0 {
         return 0;
     }
+    let n = numbers_at(table, place);
     let value = value_octets(received, set, row);
-    ie_len(form_at(table, place), value.len())
+    ie_len(form_of(n.code, n.size), value.len())
 }
 
 // With one entry more of the order log.
@@ -113,7 +114,7 @@ fn with_entry<'a>(
     }
 }
 
-// The whole order log.
+// The whole order log, which is well formed.
 pub(crate) fn logged_len<'a>(
     table: &[u32],
     index: &[u8],
@@ -121,8 +122,8 @@ pub(crate) fn logged_len<'a>(
     received: &'a [u8],
     set: &'a [u8],
     order: &[u8],
-) -> Logged
-    requires { ⌜ Sized (now table) (now index) (now received) (now set) × (length (now order) ≤ 131070) ⌝ }
+) -> Tally
+    requires { ⌜ Sized (now table) (now index) (now received) (now set) × (length (now order) ≤ 131070) × OrderAt (now order) 0 ⌝ }
     ensures { λ r. ⌜ LoggedBy (filledOf (now (table .entry)) (now (rows .entry)) (now (received .entry)) (now (set .entry))) (now (order .entry)) r ⌝ }
 {
     let mut at = 0;
@@ -137,100 +138,87 @@ pub(crate) fn logged_len<'a>(
                 at += entry_len(entry);
             }
             Front::Not => {
-                return Logged::Malformed;
+                return t;
             }
         }
     }
-    Logged::Is(t)
+    t
 }
 
-// The whole kept log.
-pub(crate) fn kept_len(kept: &[u8]) -> Kept
-    ensures { λ r. ⌜ KeptBy (now (kept .entry)) r ⌝ }
-{
-    let mut at = 0;
-    let mut octets = 0;
-    while at < kept.len() {
-        match entry_at(&kept[at..]) {
-            Count::Is(value, took) => {
-                octets += value;
-                at += took + value;
-            }
-            Count::Not => {
-                return Kept::Malformed;
-            }
-        }
-    }
-    Kept::Octets(octets)
-}
-
-// How many octets a place's element takes if it is an added one.
-fn first_len<'a>(
+// One look at a place.
+fn look<'a>(
     table: &[u32],
     rows: &[u32],
     received: &'a [u8],
     set: &'a [u8],
-    seen: Seen,
     place: usize,
-) -> usize
-    requires { ⌜ (length (now received) ≤ 65535) × (length (now set) ≤ 65535) ⌝ }
-    ensures { λ r. ⌜ (r ≡ length (addedPiece (filledOf (now (table .entry)) (now (rows .entry)) (now (received .entry)) (now (set .entry))) (setOf seen) place)) × (r ≤ mostIe) ⌝ }
+) -> Looked
+    requires { ⌜ (firstBad (rowsOf (now table)) ≡ none) × (length (now received) ≤ 65535) × (length (now set) ≤ 65535) ⌝ }
+    ensures { λ r. ⌜ LookedAt (filledOf (now (table .entry)) (now (rows .entry)) (now (received .entry)) (now (set .entry))) place r ⌝ }
+{
+    let row = row_at(rows, place);
+    if !is_good(row, received, set) {
+        return Looked::Bad;
+    }
+    if row.source == 0 {
+        return Looked::Takes(0);
+    }
+    let n = numbers_at(table, place);
+    let form = form_of(n.code, n.size);
+    let value = value_octets(received, set, row);
+    if !does_fit(form, row.source, value) {
+        return Looked::Unfit;
+    }
+    Looked::Takes(ie_len(form, value.len()))
+}
+
+// The octets of an element if its place is not in the order log.
+fn if_added(seen: Seen, place: usize, len: usize) -> usize
+    ensures { λ r. ⌜ r ≡ pick (bit place (setOf seen)) 0 len ⌝ }
 {
     if seen_has(seen, place) {
         return 0;
     }
-    place_len(table, rows, received, set, place)
+    len
 }
 
-// The octets of the elements of places that are present and not in the order log.
-pub(crate) fn added_len<'a>(
+// A place is the lowest whose value does not fit; but a row that is malformed comes first.
+fn unfit_or_bad(rows: &[u32], n: usize, received: &[u8], set: &[u8], place: usize) -> Surveyed
+    ensures { λ r. ⌜ r ≡ pick (badRows (sourcesOf (now (received .entry)) (now (set .entry))) (now (rows .entry)) n) Surveyed.Malformed (Surveyed.Unfit place) ⌝ }
+{
+    if any_bad(rows, n, received, set) {
+        return Surveyed::Malformed;
+    }
+    Surveyed::Unfit(place)
+}
+
+// One look at each place, by the set of those in the order log.
+pub(crate) fn survey<'a>(
     table: &[u32],
     rows: &[u32],
     received: &'a [u8],
     set: &'a [u8],
     seen: Seen,
-) -> usize
-    requires { ⌜ (length (rowsOf (now table)) ≤ 128) × (length (now received) ≤ 65535) × (length (now set) ≤ 65535) ⌝ }
-    ensures { λ r. ⌜ (r ≡ length (addedOctets (filledOf (now (table .entry)) (now (rows .entry)) (now (received .entry)) (now (set .entry))) (setOf seen) 0 (length (rowsOf (now (table .entry)))))) × (r ≤ mostIe * 128) ⌝ }
+) -> Surveyed
+    requires { ⌜ (firstBad (rowsOf (now table)) ≡ none) × (length (now received) ≤ 65535) × (length (now set) ≤ 65535) ⌝ }
+    ensures { λ r. ⌜ SurveyedBy (filledOf (now (table .entry)) (now (rows .entry)) (now (received .entry)) (now (set .entry))) (setOf seen) r ⌝ }
 {
     let n = places(table);
     let mut octets = 0;
     let mut k = 0;
     while k < n {
-        octets += first_len(table, rows, received, set, seen, k);
-        k += 1;
-    }
-    octets
-}
-
-// Whether a present place has a value that does not fit its form.
-fn is_unfit<'a>(
-    table: &[u32],
-    rows: &[u32],
-    received: &'a [u8],
-    set: &'a [u8],
-    place: usize,
-) -> bool
-    ensures { λ r. ⌜ r ≡ unfitAt (rowsOf (now (table .entry))) (sourcesOf (now (received .entry)) (now (set .entry))) (now (rows .entry)) place ⌝ }
-{
-    let row = row_at(rows, place);
-    if row.source == 0 {
-        return false;
-    }
-    let value = value_octets(received, set, row);
-    !does_fit(form_at(table, place), row.source, value)
-}
-
-pub(crate) fn first_unfit<'a>(table: &[u32], rows: &[u32], received: &'a [u8], set: &'a [u8]) -> Fit
-    ensures { λ r. ⌜ fitAs r ≡ unfit (rowsOf (now (table .entry))) (sourcesOf (now (received .entry)) (now (set .entry))) (now (rows .entry)) ⌝ }
-{
-    let n = places(table);
-    let mut k = 0;
-    while k < n {
-        if is_unfit(table, rows, received, set, k) {
-            return Fit::Not(k);
+        match look(table, rows, received, set, k) {
+            Looked::Bad => {
+                return Surveyed::Malformed;
+            }
+            Looked::Unfit => {
+                return unfit_or_bad(rows, n, received, set, k);
+            }
+            Looked::Takes(len) => {
+                octets += if_added(seen, k, len);
+                k += 1;
+            }
         }
-        k += 1;
     }
-    Fit::All
+    Surveyed::Added(octets)
 }

@@ -7,8 +7,8 @@ use order::Front;
 use order::Placed;
 use order::entry_len;
 use order::front_at;
-use rows::columns::first_iei;
-use rows::columns::form_at;
+use rows::columns::form_of;
+use rows::columns::numbers_at;
 use rows::columns::places;
 use rows::index::Place;
 use rows::index::place_of;
@@ -58,9 +58,9 @@ fn put_place<'a>(
     if row.source == 0 {
         return at;
     }
-    let form = form_at(table, place);
+    let n = numbers_at(table, place);
     let value = value_octets(received, set, row);
-    at + put_ie(&mut output[at..], form, iei, value)
+    at + put_ie(&mut output[at..], form_of(n.code, n.size), iei, value)
 }
 
 // The element of a place under its first IEI, if it is an added one; the position behind it.
@@ -77,11 +77,21 @@ fn put_first<'a>(
     requires { ⌜ Writable (now table) (now rows) (now received) (now set) × (place < length (rowsOf (now table))) × (at + length (addedPiece (filledOf (now table) (now rows) (now received) (now set)) (setOf seen) place) ≤ length (now output)) ⌝ }
     ensures { λ r. ⌜ PutAt at (addedPiece (filledOf (now (table .entry)) (now (rows .entry)) (now (received .entry)) (now (set .entry))) (setOf seen) place) (now (output .entry)) r (now (output .exit)) ⌝ }
 {
+    let row = row_at(rows, place);
+    if row.source == 0 {
+        return at;
+    }
     if seen_has(seen, place) {
         return at;
     }
-    let iei = first_iei(table, place) as u8;
-    put_place(table, rows, received, set, place, iei, output, at)
+    let n = numbers_at(table, place);
+    let value = value_octets(received, set, row);
+    at + put_ie(
+        &mut output[at..],
+        form_of(n.code, n.size),
+        n.first as u8,
+        value,
+    )
 }
 
 // The added elements from a place on, up to another, ascending and each under its first IEI; the position behind them.

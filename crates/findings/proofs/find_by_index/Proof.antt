@@ -1,11 +1,13 @@
 -- `find_by_index` makes the checks behind the table's in their order.
 -- Each way out cites the law of its check; two logs that pass are well formed.
-use lib.ListN.{length-take}
-use Rattle.definitions.specs.Basic.{content}
 use native.Mathlib.Omega.{arith}
 use mathlib.Core.Path.{refl, sym, _∙_}
+use lib.ListN.{length-take}
+use Rattle.definitions.specs.Basic.{content}
 use Rattle.kept.specs.Kept.{usedOf}
-use Rattle.findings.proofs.Finding.{within-limit, logs-formed, finds-by, refused, long-order, long-kept, bad-order, bad-kept, formed-both}
+use Rattle.logs.specs.Checks.{Checked}
+use Rattle.logs.proofs.Formed.{logs-checked}
+use Rattle.findings.proofs.Finding.{within-limit, said-order, said-kept, said-formed, logs-formed, finds-by, refused, long-order, long-kept, bad-order, bad-kept, formed-both}
 use borrow.Author.Needs.{needs}
 use Rattle.findings.proofs.find_by_index.Statement.{statement}
 use Rattle.findings.proofs.find_by_index.Tie as tie
@@ -14,42 +16,59 @@ too-long-requires : tie.Need-too-long-requires
 too-long-requires c κs = search needs
 
 returns : tie.Need-returns
-returns c = let a = c .before .before .before .before .before .before .args in refused (long-order (a .index .now) (usedOf (a .order .now) (a .order-used)) (usedOf (a .kept .now) (a .kept-used)) (a .findings .now) (sym (c .before .too-long .ensures) ∙ c .if1 .taken)) refl
+returns c = refused (long-order (c .before .before .before .before .before .before .args .index .now) (usedOf (c .before .before .before .before .before .before .args .order .now) (c .before .before .before .before .before .before .args .order-used)) (usedOf (c .before .before .before .before .before .before .args .kept .now) (c .before .before .before .before .before .before .args .kept-used)) (c .before .before .before .before .before .before .args .findings .now) (sym (c .before .too-long .ensures) ∙ c .if1 .taken)) refl
 
 too-long-requires-2 : tie.Need-too-long-requires-2
 too-long-requires-2 c κs = search needs
 
 returns-2 : tie.Need-returns-2
-returns-2 c = let a = c .before .before .before .before .before .before .before .before .args in refused (long-kept (a .index .now) (usedOf (a .order .now) (a .order-used)) (usedOf (a .kept .now) (a .kept-used)) (a .findings .now) (sym (c .before .before .before .too-long .ensures) ∙ c .before .before .if1 .left) (sym (c .before .too-long2 .ensures) ∙ c .if2 .taken)) refl
+returns-2 c = refused (long-kept (c .before .before .before .before .before .before .before .before .args .index .now) (usedOf (c .before .before .before .before .before .before .before .before .args .order .now) (c .before .before .before .before .before .before .before .before .args .order-used)) (usedOf (c .before .before .before .before .before .before .before .before .args .kept .now) (c .before .before .before .before .before .before .before .before .args .kept-used)) (c .before .before .before .before .before .before .before .before .args .findings .now) (sym (c .before .before .before .too-long .ensures) ∙ c .before .before .if1 .left) (sym (c .before .too-long2 .ensures) ∙ c .if2 .taken)) refl
 
-order-malformed-requires : tie.Need-order-malformed-requires
-order-malformed-requires c κs = sym (c .before .before .before .too-long .ensures) ∙ c .before .before .if1 .left
+slice-aggregate-check-logs : tie.Need-slice-aggregate-check-logs
+slice-aggregate-check-logs c = simp length-take (omega (arith, within-limit 131070 (usedOf (c .before .before .before .before .before .before .before .before .before .args .order .now) (c .before .before .before .before .before .before .before .before .before .args .order-used)) (sym (c .before .before .before .before .too-long .ensures) ∙ c .before .before .before .if1 .left) .0))
 
-returns-3 : tie.Need-returns-3
-returns-3 c = let a = c .before .before .before .before .before .before .before .before .before .before .args in refused (bad-order (a .index .now) (usedOf (a .order .now) (a .order-used)) (usedOf (a .kept .now) (a .kept-used)) (a .findings .now) (sym (c .before .before .before .before .before .too-long .ensures) ∙ c .before .before .before .before .if1 .left) (sym (c .before .before .before .too-long2 .ensures) ∙ c .before .before .if2 .left) (sym (c .before .order-malformed .ensures) ∙ c .if3 .taken)) refl
+slice-aggregate-check-logs-2 : tie.Need-slice-aggregate-check-logs-2
+slice-aggregate-check-logs-2 c = simp length-take (omega (arith, within-limit 131070 (usedOf (c .before .before .before .before .before .before .before .before .before .before .args .kept .now) (c .before .before .before .before .before .before .before .before .before .before .args .kept-used)) (sym (c .before .before .before .too-long2 .ensures) ∙ c .before .before .if2 .left) .0))
 
-kept-malformed-requires : tie.Need-kept-malformed-requires
-kept-malformed-requires c κs = sym (c .before .before .before .too-long2 .ensures) ∙ c .before .before .if2 .left
+check-logs-requires : tie.Need-check-logs-requires
+check-logs-requires c κs = search needs
 
-returns-4 : tie.Need-returns-4
-returns-4 c = let a = c .before .before .before .before .before .before .before .before .before .before .before .before .args in refused (bad-kept (a .index .now) (usedOf (a .order .now) (a .order-used)) (usedOf (a .kept .now) (a .kept-used)) (a .findings .now) (sym (c .before .before .before .before .before .before .before .too-long .ensures) ∙ c .before .before .before .before .before .before .if1 .left) (sym (c .before .before .before .before .before .too-long2 .ensures) ∙ c .before .before .before .before .if2 .left) (sym (c .before .before .before .order-malformed .ensures) ∙ c .before .before .if3 .left) (sym (c .before .kept-malformed .ensures) ∙ c .if4 .taken)) refl
+-- what the logs say
+checked : (c : tie.After-check-logs) → Checked (content (usedOf (c .before .before .before .before .before .before .before .before .before .before .before .args .order .now) (c .before .before .before .before .before .before .before .before .before .before .before .args .order-used))) (content (usedOf (c .before .before .before .before .before .before .before .before .before .before .before .args .kept .now) (c .before .before .before .before .before .before .before .before .before .before .before .args .kept-used))) (c .check-logs .result)
+unfolding content
+checked c = logs-checked (content (usedOf (c .before .before .before .before .before .before .before .before .before .before .before .args .order .now) (c .before .before .before .before .before .before .before .before .before .before .before .args .order-used))) (content (usedOf (c .before .before .before .before .before .before .before .before .before .before .before .args .kept .now) (c .before .before .before .before .before .before .before .before .before .before .before .args .kept-used))) (c .check-logs .ensures)
+
+enum-told : tie.Need-enum-told
+enum-told c = search needs
 
 slice-aggregate-find : tie.Need-slice-aggregate-find
-slice-aggregate-find c = let a = c .before .before .before .before .before .before .before .before .before .before .before .before .before .args in simp length-take (omega (arith, within-limit 131070 (usedOf (a .order .now) (a .order-used)) (sym (c .before .before .before .before .before .before .before .before .too-long .ensures) ∙ c .before .before .before .before .before .before .before .if1 .left) .0))
+slice-aggregate-find c = simp length-take (omega (arith, within-limit 131070 (usedOf (c .before .before .before .before .before .before .before .before .before .before .before .before .before .before .args .order .now) (c .before .before .before .before .before .before .before .before .before .before .before .before .before .before .args .order-used)) (sym (c .before .before .before .before .before .before .before .before .before .too-long .ensures) ∙ c .before .before .before .before .before .before .before .before .if1 .left) .0))
 
 slice-aggregate-find-2 : tie.Need-slice-aggregate-find-2
-slice-aggregate-find-2 c = let a = c .before .before .before .before .before .before .before .before .before .before .before .before .before .before .args in simp length-take (omega (arith, within-limit 131070 (usedOf (a .kept .now) (a .kept-used)) (sym (c .before .before .before .before .before .before .before .too-long2 .ensures) ∙ c .before .before .before .before .before .before .if2 .left) .0))
+slice-aggregate-find-2 c = simp length-take (omega (arith, within-limit 131070 (usedOf (c .before .before .before .before .before .before .before .before .before .before .before .before .before .before .before .args .kept .now) (c .before .before .before .before .before .before .before .before .before .before .before .before .before .before .before .args .kept-used)) (sym (c .before .before .before .before .before .before .before .before .too-long2 .ensures) ∙ c .before .before .before .before .before .before .before .if2 .left) .0))
 
 find-requires : tie.Need-find-requires
 unfolding content
-find-requires c κs = let a = c .before .before .before .before .before .before .before .before .before .before .before .before .before .before .before .args in logs-formed (usedOf (a .order .now) (a .order-used)) (usedOf (a .kept .now) (a .kept-used)) (sym (c .before .before .before .before .before .before .before .before .before .before .too-long .ensures) ∙ c .before .before .before .before .before .before .before .before .before .if1 .left) (sym (c .before .before .before .before .before .before .order-malformed .ensures) ∙ c .before .before .before .before .before .if3 .left) (sym (c .before .before .before .before .kept-malformed .ensures) ∙ c .before .before .before .if4 .left)
+find-requires c κs = let s = said-formed (usedOf (c .before .before .before .before .before .before .before .before .before .before .before .before .before .before .before .before .args .order .now) (c .before .before .before .before .before .before .before .before .before .before .before .before .before .before .before .before .args .order-used)) (usedOf (c .before .before .before .before .before .before .before .before .before .before .before .before .before .before .before .before .args .kept .now) (c .before .before .before .before .before .before .before .before .before .before .before .before .before .before .before .before .args .kept-used)) (rw (c .before .before .before .enum-told .given .1) at (checked (c .before .before .before .before .before))) in logs-formed (usedOf (c .before .before .before .before .before .before .before .before .before .before .before .before .before .before .before .before .args .order .now) (c .before .before .before .before .before .before .before .before .before .before .before .before .before .before .before .before .args .order-used)) (usedOf (c .before .before .before .before .before .before .before .before .before .before .before .before .before .before .before .before .args .kept .now) (c .before .before .before .before .before .before .before .before .before .before .before .before .before .before .before .before .args .kept-used)) (sym (c .before .before .before .before .before .before .before .before .before .before .before .too-long .ensures) ∙ c .before .before .before .before .before .before .before .before .before .before .if1 .left) (s .0) (s .1)
+
+enum-told-2 : tie.Need-enum-told-2
+enum-told-2 c = search needs
+
+enum-told-3 : tie.Need-enum-told-3
+enum-told-3 c = search needs
 
 same-length : tie.Need-same-length
 same-length c = search needs
 
-returns-5 : tie.Need-returns-5
+returns-3 : tie.Need-returns-3
 unfolding content
-returns-5 c = let a = c .before .before .before .before .before .before .before .before .before .before .before .before .before .before .before .before .before .before .args in finds-by (formed-both (a .index .now) (usedOf (a .order .now) (a .order-used)) (usedOf (a .kept .now) (a .kept-used)) (a .findings .now) (sym (c .before .before .before .before .before .before .before .before .before .before .before .before .before .too-long .ensures) ∙ c .before .before .before .before .before .before .before .before .before .before .before .before .if1 .left) (sym (c .before .before .before .before .before .before .before .before .before .before .before .too-long2 .ensures) ∙ c .before .before .before .before .before .before .before .before .before .before .if2 .left) (sym (c .before .before .before .before .before .before .before .before .before .order-malformed .ensures) ∙ c .before .before .before .before .before .before .before .before .if3 .left) (sym (c .before .before .before .before .before .before .before .kept-malformed .ensures) ∙ c .before .before .before .before .before .before .if4 .left)) (c .before .before .find .ensures)
+returns-3 c = let s = said-formed (usedOf (c .before .before .before .before .before .before .before .before .before .before .before .before .before .before .before .before .before .before .before .args .order .now) (c .before .before .before .before .before .before .before .before .before .before .before .before .before .before .before .before .before .before .before .args .order-used)) (usedOf (c .before .before .before .before .before .before .before .before .before .before .before .before .before .before .before .before .before .before .before .args .kept .now) (c .before .before .before .before .before .before .before .before .before .before .before .before .before .before .before .before .before .before .before .args .kept-used)) (rw (c .before .before .before .before .before .before .enum-told .given .1) at (checked (c .before .before .before .before .before .before .before .before))) in finds-by (formed-both (c .before .before .before .before .before .before .before .before .before .before .before .before .before .before .before .before .before .before .before .args .index .now) (usedOf (c .before .before .before .before .before .before .before .before .before .before .before .before .before .before .before .before .before .before .before .args .order .now) (c .before .before .before .before .before .before .before .before .before .before .before .before .before .before .before .before .before .before .before .args .order-used)) (usedOf (c .before .before .before .before .before .before .before .before .before .before .before .before .before .before .before .before .before .before .before .args .kept .now) (c .before .before .before .before .before .before .before .before .before .before .before .before .before .before .before .before .before .before .before .args .kept-used)) (c .before .before .before .before .before .before .before .before .before .before .before .before .before .before .before .before .before .before .before .args .findings .now) (sym (c .before .before .before .before .before .before .before .before .before .before .before .before .before .before .too-long .ensures) ∙ c .before .before .before .before .before .before .before .before .before .before .before .before .before .if1 .left) (sym (c .before .before .before .before .before .before .before .before .before .before .before .before .too-long2 .ensures) ∙ c .before .before .before .before .before .before .before .before .before .before .before .if2 .left) (s .0) (s .1)) (c .before .before .find .ensures)
+
+returns-4 : tie.Need-returns-4
+returns-4 c = refused (bad-order (c .before .before .before .before .before .before .before .before .before .before .before .before .before .args .index .now) (usedOf (c .before .before .before .before .before .before .before .before .before .before .before .before .before .args .order .now) (c .before .before .before .before .before .before .before .before .before .before .before .before .before .args .order-used)) (usedOf (c .before .before .before .before .before .before .before .before .before .before .before .before .before .args .kept .now) (c .before .before .before .before .before .before .before .before .before .before .before .before .before .args .kept-used)) (c .before .before .before .before .before .before .before .before .before .before .before .before .before .args .findings .now) (sym (c .before .before .before .before .before .before .before .before .too-long .ensures) ∙ c .before .before .before .before .before .before .before .if1 .left) (sym (c .before .before .before .before .before .before .too-long2 .ensures) ∙ c .before .before .before .before .before .if2 .left) (said-order (usedOf (c .before .before .before .before .before .before .before .before .before .before .before .before .before .args .order .now) (c .before .before .before .before .before .before .before .before .before .before .before .before .before .args .order-used)) (usedOf (c .before .before .before .before .before .before .before .before .before .before .before .before .before .args .kept .now) (c .before .before .before .before .before .before .before .before .before .before .before .before .before .args .kept-used)) (rw (c .enum-told2 .given .1) at (checked (c .before .before))))) refl
+
+returns-5 : tie.Need-returns-5
+returns-5 c = let s = said-kept (usedOf (c .before .before .before .before .before .before .before .before .before .before .before .before .before .args .order .now) (c .before .before .before .before .before .before .before .before .before .before .before .before .before .args .order-used)) (usedOf (c .before .before .before .before .before .before .before .before .before .before .before .before .before .args .kept .now) (c .before .before .before .before .before .before .before .before .before .before .before .before .before .args .kept-used)) (rw (c .enum-told3 .given .1) at (checked (c .before .before))) in refused (bad-kept (c .before .before .before .before .before .before .before .before .before .before .before .before .before .args .index .now) (usedOf (c .before .before .before .before .before .before .before .before .before .before .before .before .before .args .order .now) (c .before .before .before .before .before .before .before .before .before .before .before .before .before .args .order-used)) (usedOf (c .before .before .before .before .before .before .before .before .before .before .before .before .before .args .kept .now) (c .before .before .before .before .before .before .before .before .before .before .before .before .before .args .kept-used)) (c .before .before .before .before .before .before .before .before .before .before .before .before .before .args .findings .now) (sym (c .before .before .before .before .before .before .before .before .too-long .ensures) ∙ c .before .before .before .before .before .before .before .if1 .left) (sym (c .before .before .before .before .before .before .too-long2 .ensures) ∙ c .before .before .before .before .before .if2 .left) (s .0) (s .1)) refl
 
 pub find-by-index-spec : {M : Type 1} → statement M
 find-by-index-spec =
@@ -59,12 +78,16 @@ find-by-index-spec =
     returns
     too-long-requires-2
     returns-2
-    order-malformed-requires
-    returns-3
-    kept-malformed-requires
-    returns-4
+    slice-aggregate-check-logs
+    slice-aggregate-check-logs-2
+    check-logs-requires
+    enum-told
     slice-aggregate-find
     slice-aggregate-find-2
     find-requires
+    enum-told-2
+    enum-told-3
     same-length
+    returns-3
+    returns-4
     returns-5)

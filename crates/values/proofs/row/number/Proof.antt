@@ -1,10 +1,28 @@
--- `number` is a number of the rows, or 0.
--- Past the end the definition gives its default.
+-- `number` is a number of a row: each way out settles whether the rows have it.
+-- A row that begins past the end has none.
+use Prim.Native.Nat.{_*_}
+use native.Mathlib.Omega.{arith}
 use mathlib.Core.Path.{sym}
-use lib.ListN.{List·getD-eq-default}
+use lib.Seq.{getD-drop}
+use Rattle.definitions.proofs.TableLaws.{past}
 use borrow.Author.Needs.{needs}
 use Rattle.values.proofs.row.number.Statement.{statement}
 use Rattle.values.proofs.row.number.Tie as tie
+
+returns : tie.Need-returns
+returns c = let a = c .before .args in sym (past (3 * a .place) (a .rows .now) (a .column) (omega arith))
+
+mul-start : tie.Need-mul-start
+mul-start c = search needs
+
+sub-if2 : tie.Need-sub-if2
+sub-if2 c = search needs
+
+returns-2 : tie.Need-returns-2
+returns-2 c = let a = c .before .before .args in sym (past (3 * a .place) (a .rows .now) (a .column) (omega arith))
+
+add-result : tie.Need-add-result
+add-result c = search needs
 
 mul-result : tie.Need-mul-result
 mul-result c = search needs
@@ -12,11 +30,18 @@ mul-result c = search needs
 shared-slice-read-result : tie.Need-shared-slice-read-result
 shared-slice-read-result c = search needs
 
-returns : tie.Need-returns
-returns c = search needs
-
-returns-2 : tie.Need-returns-2
-returns-2 c = sym (List·getD-eq-default (c .before .args .rows .now) 0 (c .if1 .left))
+returns-3 : tie.Need-returns-3
+returns-3 c = let a = c .before .before .before .args in sym (getD-drop (3 * a .place) (a .rows .now) (a .column) 0)
 
 pub number-spec : {M : Type 1} → statement M
-number-spec = tie.close (tie.spec mul-result shared-slice-read-result returns returns-2)
+number-spec =
+    tie.close
+    (tie.spec
+    returns
+    mul-start
+    sub-if2
+    returns-2
+    add-result
+    mul-result
+    shared-slice-read-result
+    returns-3)

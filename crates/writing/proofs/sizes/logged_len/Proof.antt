@@ -10,7 +10,7 @@ use Rattle.definitions.proofs.Lists.{to-end}
 use Rattle.definitions.proofs.LogSteps.{OrderEntry, order-split, order-stop}
 use Rattle.order.specs.Order.{placedAs, frontAs}
 use Rattle.writing.specs.Walks.{filledOf}
-use Rattle.writing.proofs.Tallying.{Logging, logging-begun, logging-step, logging-ended}
+use Rattle.writing.proofs.Tallying.{Logging, logging-begun, logging-step, logging-ended, never-none}
 use borrow.Author.Needs.{needs}
 use Rattle.writing.proofs.sizes.logged_len.Statement.{statement}
 use Rattle.writing.proofs.sizes.logged_len.Tie as tie
@@ -65,7 +65,10 @@ enum-told : tie.Need-enum-told Inv-loop μ-loop
 enum-told c = search needs
 
 returns : tie.Need-returns Inv-loop μ-loop
-returns c = let e : orderFront (drop (c .before .before .before .before .before .loop .at) (c .before .before .before .before .before .before .before .before .before .before .before .before .args .order .now)) ≡ none = sym (ap frontAs (sym (c .enum-told .given .1)) ∙ rw to-end at (c .before .before .front-at .ensures)) in c .before .before .before .before .before .loop .inv .bad (order-stop (c .before .before .before .before .before .before .before .before .before .before .before .before .args .order .now) (c .before .before .before .before .before .loop .at) (c .before .before .before .before .loop-test .taken) e)
+returns c =
+    let e : orderFront (drop (c .before .before .before .before .before .loop .at) (c .before .before .before .before .before .before .before .before .before .before .before .before .args .order .now)) ≡ none = sym (ap frontAs (sym (c .enum-told .given .1)) ∙ rw to-end at (c .before .before .front-at .ensures)) in
+    let n = c .before .before .before .before .before .loop .inv .bad (order-stop (c .before .before .before .before .before .before .before .before .before .before .before .before .args .order .now) (c .before .before .before .before .before .loop .at) (c .before .before .before .before .loop-test .taken) e) in
+    absurd (never-none (sym n ∙ c .before .before .before .before .before .before .before .before .before .before .before .before .pre .2 .formed))
 
 returns-2 : tie.Need-returns-2 Inv-loop μ-loop
 returns-2 c = logging-ended (filledOf (c .before .before .before .before .before .before .before .before .args .table .now) (c .before .before .before .before .before .before .before .before .args .rows .now) (c .before .before .before .before .before .before .before .before .args .received .now) (c .before .before .before .before .before .before .before .before .args .set .now)) (c .before .before .before .before .before .before .before .before .args .order .now) (c .before .loop .at) (c .before .loop .t) (c .before .loop .inv) (c .loop-test .left)

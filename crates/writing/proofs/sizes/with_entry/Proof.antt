@@ -30,7 +30,7 @@ low c =
     omega arith
 
 place-len-requires : tie.Need-place-len-requires
-place-len-requires c κs = (c .before .before .before .before .before .before .before .before .before .before .before .before .before .pre .0 .received-short, c .before .before .before .before .before .before .before .before .before .before .before .before .before .pre .0 .set-short)
+place-len-requires c κs = (c .before .before .before .before .before .before .before .before .before .before .before .before .before .pre .0 .passes, c .before .before .before .before .before .before .before .before .before .before .before .before .before .pre .0 .received-short, c .before .before .before .before .before .before .before .before .before .before .before .before .before .pre .0 .set-short)
 
 add-t15 : tie.Need-add-t15
 add-t15 c = omega (arith, c .before .place-len .ensures .1, c .before .before .before .before .before .before .before .before .before .before .before .before .before .before .before .pre .1)

@@ -1,47 +1,106 @@
--- `put_first` writes nothing of a logged place, and of another its element under the first IEI.
+-- `put_first` writes nothing of an absent or a logged place, and of another its element under the first IEI.
 -- That IEI is one of the place's form.
+use Prim.Native.Nat.{_<_}
 use native.Mathlib.Omega.{arith}
-use mathlib.Core.Path.{_≡_, sym, _∙_}
+use mathlib.Core.Path.{_≡_, ap, sym, _∙_}
+use lib.ListN.{length, length-take, length-drop}
 use Rattle.definitions.specs.Rows.{rowsOf, rowAt, form, firstIei}
+use Rattle.definitions.specs.Writing.{encoded, elementAt}
+use Rattle.definitions.proofs.RowLaws.{Bears}
 use Rattle.definitions.proofs.TableLaws.{first-bears}
-use Rattle.writing.specs.Walks.{addedPiece}
-use Rattle.writing.proofs.Putting.{put-nothing, bears-octet}
+use Rattle.definitions.proofs.Lists.{length-overAt}
+use Rattle.rows.specs.Forms.{formAs}
+use Rattle.rows.specs.declared.columns.Numbers.{Numbers}
+use Rattle.rows.proofs.WholeRows.{whole-rows}
+use Rattle.seen.specs.Seen.{setOf}
+use Rattle.writing.specs.Walks.{filledOf, addedPiece}
+use Rattle.writing.proofs.Places.{form-there, absent}
+use Rattle.writing.proofs.Putting.{piece-there, writes-there, put-nothing, put-from, bears-octet}
+use Rattle.writing.proofs.Cursor.{piece-absent, piece-logged, piece-added}
 use borrow.Author.Needs.{needs}
 use Rattle.writing.proofs.walk.put_first.Statement.{statement}
 use Rattle.writing.proofs.walk.put_first.Tie as tie
 
+row-at-requires : tie.Need-row-at-requires
+row-at-requires c κs = search needs
+
+returns : tie.Need-returns
+returns c = rw (piece-absent (filledOf (c .before .before .before .before .before .before .before .before .args .table .now) (c .before .before .before .before .before .before .before .before .args .rows .now) (c .before .before .before .before .before .before .before .before .args .received .now) (c .before .before .before .before .before .before .before .before .args .set .now)) (setOf (c .before .before .before .before .before .before .before .before .args .seen)) (c .before .before .before .before .before .before .before .before .args .place) (absent (c .before .before .before .before .before .before .before .before .args .table .now) (c .before .before .before .before .before .before .before .before .args .rows .now) (c .before .before .before .before .before .before .before .before .args .received .now) (c .before .before .before .before .before .before .before .before .args .set .now) (c .before .before .before .before .before .before .before .before .args .place) (c .before .before .row-at .result) (c .before .before .row-at .ensures) (c .if1 .taken) _)) (put-nothing (c .before .before .before .before .before .before .before .before .args .at) (c .before .before .before .before .before .before .before .before .args .output .now))
+
 seen-has-requires : tie.Need-seen-has-requires
 seen-has-requires c κs = search needs
 
-returns : tie.Need-returns
-unfolding addedPiece
-returns c = rw (sym (c .before .seen-has .ensures) ∙ c .if1 .taken) (put-nothing (c .before .before .before .before .before .before .before .args .at) (c .before .before .before .before .before .before .before .args .output .now))
+returns-2 : tie.Need-returns-2
+returns-2 c = rw (piece-logged (filledOf (c .before .before .before .before .before .before .before .before .before .before .args .table .now) (c .before .before .before .before .before .before .before .before .before .before .args .rows .now) (c .before .before .before .before .before .before .before .before .before .before .args .received .now) (c .before .before .before .before .before .before .before .before .before .before .args .set .now)) (setOf (c .before .before .before .before .before .before .before .before .before .before .args .seen)) (c .before .before .before .before .before .before .before .before .before .before .args .place) (sym (c .before .seen-has .ensures) ∙ c .if2 .taken)) (put-nothing (c .before .before .before .before .before .before .before .before .before .before .args .at) (c .before .before .before .before .before .before .before .before .before .before .args .output .now))
 
-first-iei-requires : tie.Need-first-iei-requires
-first-iei-requires c κs = search needs
+numbers-at-requires : tie.Need-numbers-at-requires
+numbers-at-requires c κs = search needs
 
-cast-iei : tie.Need-cast-iei
-cast-iei c = let t = c .before .before .before .before .before .before .before .before .args .table .now in omega (arith, c .first-iei .ensures, bears-octet (form (rowAt (rowsOf t) (c .before .before .before .before .before .before .before .before .args .place))) (firstIei (rowsOf t) (c .before .before .before .before .before .before .before .before .args .place)) (first-bears t (c .before .before .before .before .before .before .before .before .args .place) (c .before .before .before .before .before .before .before .before .pre .0 .passes) (c .before .before .before .before .before .before .before .before .pre .1)))
+value-octets-requires : tie.Need-value-octets-requires
+value-octets-requires c κs = search needs
 
-put-place-requires : tie.Need-put-place-requires
-unfolding addedPiece
-put-place-requires c κs = (c .before .before .before .before .before .before .before .before .before .pre .0, c .before .before .before .before .before .before .before .before .before .pre .1, rw (c .before .first-iei .ensures) (first-bears (c .before .before .before .before .before .before .before .before .before .args .table .now) (c .before .before .before .before .before .before .before .before .before .args .place) (c .before .before .before .before .before .before .before .before .before .pre .0 .passes) (c .before .before .before .before .before .before .before .before .before .pre .1)), rw (c .before .first-iei .ensures) (rw (sym (c .before .before .before .seen-has .ensures) ∙ c .before .before .if1 .left) at (c .before .before .before .before .before .before .before .before .before .pre .2)))
+-- the first IEI, which is one of the form's
+first-is : (c : tie.After-numbers-at) → c .numbers-at .result .first ≡ firstIei (rowsOf (c .before .before .before .before .before .before .before .before .before .before .before .args .table .now)) (c .before .before .before .before .before .before .before .before .before .before .before .args .place)
+first-is c = ap (λ (n : Numbers). n .first) (c .numbers-at .ensures) ∙ whole-rows (c .before .before .before .before .before .before .before .before .before .before .before .args .table .now) (c .before .before .before .before .before .before .before .before .before .before .before .pre .0 .passes) .first (c .before .before .before .before .before .before .before .before .before .before .before .args .place)
+
+bears : (c : tie.After-numbers-at) → Bears (form (rowAt (rowsOf (c .before .before .before .before .before .before .before .before .before .before .before .args .table .now)) (c .before .before .before .before .before .before .before .before .before .before .before .args .place))) (c .numbers-at .result .first)
+bears c = rw (first-is c) (first-bears (c .before .before .before .before .before .before .before .before .before .before .before .args .table .now) (c .before .before .before .before .before .before .before .before .before .before .before .args .place) (c .before .before .before .before .before .before .before .before .before .before .before .pre .0 .passes) (c .before .before .before .before .before .before .before .before .before .before .before .pre .1))
+
+-- the element, under whatever form and octets the code has it
+first-piece : (c : tie.After-numbers-at) → addedPiece (filledOf (c .before .before .before .before .before .before .before .before .before .before .before .args .table .now) (c .before .before .before .before .before .before .before .before .before .before .before .args .rows .now) (c .before .before .before .before .before .before .before .before .before .before .before .args .received .now) (c .before .before .before .before .before .before .before .before .before .before .before .args .set .now)) (setOf (c .before .before .before .before .before .before .before .before .before .before .before .args .seen)) (c .before .before .before .before .before .before .before .before .before .before .before .args .place) ≡ elementAt (filledOf (c .before .before .before .before .before .before .before .before .before .before .before .args .table .now) (c .before .before .before .before .before .before .before .before .before .before .before .args .rows .now) (c .before .before .before .before .before .before .before .before .before .before .before .args .received .now) (c .before .before .before .before .before .before .before .before .before .before .before .args .set .now)) (c .before .before .before .before .before .before .before .before .before .before .before .args .place) (c .numbers-at .result .first)
+first-piece c = piece-added (filledOf (c .before .before .before .before .before .before .before .before .before .before .before .args .table .now) (c .before .before .before .before .before .before .before .before .before .before .before .args .rows .now) (c .before .before .before .before .before .before .before .before .before .before .before .args .received .now) (c .before .before .before .before .before .before .before .before .before .before .before .args .set .now)) (setOf (c .before .before .before .before .before .before .before .before .before .before .before .args .seen)) (c .before .before .before .before .before .before .before .before .before .before .before .args .place) (sym (c .before .before .seen-has .ensures) ∙ c .before .if2 .left) ∙ ap (elementAt (filledOf (c .before .before .before .before .before .before .before .before .before .before .before .args .table .now) (c .before .before .before .before .before .before .before .before .before .before .before .args .rows .now) (c .before .before .before .before .before .before .before .before .before .before .before .args .received .now) (c .before .before .before .before .before .before .before .before .before .before .before .args .set .now)) (c .before .before .before .before .before .before .before .before .before .before .before .args .place)) (sym (first-is c))
+
+sub-put-ie : tie.Need-sub-put-ie
+sub-put-ie c = omega (arith, c .before .before .before .before .before .before .before .before .before .before .before .before .pre .2)
+
+part-put-ie-start : tie.Need-part-put-ie-start
+part-put-ie-start c = omega (arith, c .before .before .before .before .before .before .before .before .before .before .before .before .pre .2)
+
+part-put-ie-end : tie.Need-part-put-ie-end
+part-put-ie-end c = search needs
+
+form-of-requires : tie.Need-form-of-requires
+form-of-requires c κs = search needs
+
+cast-put-ie : tie.Need-cast-put-ie
+cast-put-ie c = let o : c .before .before .before .before .numbers-at .result .first < 256 = bears-octet (form (rowAt (rowsOf (c .before .before .before .before .before .before .before .before .before .before .before .before .before .before .before .args .table .now)) (c .before .before .before .before .before .before .before .before .before .before .before .before .before .before .before .args .place))) (c .before .before .before .before .numbers-at .result .first) (bears (c .before .before .before .before)) in omega arith
+
+piece : (c : tie.After-form-of) → addedPiece (filledOf (c .before .before .before .before .before .before .before .before .before .before .before .before .before .before .args .table .now) (c .before .before .before .before .before .before .before .before .before .before .before .before .before .before .args .rows .now) (c .before .before .before .before .before .before .before .before .before .before .before .before .before .before .args .received .now) (c .before .before .before .before .before .before .before .before .before .before .before .before .before .before .args .set .now)) (setOf (c .before .before .before .before .before .before .before .before .before .before .before .before .before .before .args .seen)) (c .before .before .before .before .before .before .before .before .before .before .before .before .before .before .args .place) ≡ encoded (formAs (c .form-of .result)) (c .before .before .before .numbers-at .result .first) (c .before .before .value-octets .result .now)
+piece c = first-piece (c .before .before .before) ∙ piece-there (c .before .before .before .before .before .before .before .before .before .before .before .before .before .before .args .table .now) (c .before .before .before .before .before .before .before .before .before .before .before .before .before .before .args .rows .now) (c .before .before .before .before .before .before .before .before .before .before .before .before .before .before .args .received .now) (c .before .before .before .before .before .before .before .before .before .before .before .before .before .before .args .set .now) (c .before .before .before .before .before .before .before .before .before .before .before .before .before .before .args .place) (c .before .before .before .numbers-at .result .first) (c .before .before .before .before .before .before .before .before .row-at .result) (c .before .before .before .before .before .before .before .before .row-at .ensures) (c .before .before .before .before .before .before .if1 .left) (form-there (c .before .before .before .before .before .before .before .before .before .before .before .before .before .before .args .table .now) (c .before .before .before .before .before .before .before .before .before .before .before .before .before .before .args .place) (c .before .before .before .before .before .before .before .before .before .before .before .before .before .before .pre .0 .passes) (c .before .before .before .numbers-at .ensures) (c .form-of .ensures)) (c .before .before .value-octets .ensures)
+
+put-ie-requires : tie.Need-put-ie-requires
+put-ie-requires c κs = (writes-there (c .before .before .before .before .before .before .before .before .before .before .before .before .before .before .before .args .table .now) (c .before .before .before .before .before .before .before .before .before .before .before .before .before .before .before .args .rows .now) (c .before .before .before .before .before .before .before .before .before .before .before .before .before .before .before .args .received .now) (c .before .before .before .before .before .before .before .before .before .before .before .before .before .before .before .args .set .now) (c .before .before .before .before .before .before .before .before .before .before .before .before .before .before .before .args .place) (c .before .before .before .before .numbers-at .result .first) (c .before .before .before .before .before .before .before .before .before .row-at .result) (c .before .before .before .before .before .before .before .before .before .row-at .ensures) (c .before .before .before .before .before .before .before .if1 .left) (c .before .before .before .before .before .before .before .before .before .before .before .before .before .before .before .pre .0) (c .before .before .before .before .before .before .before .before .before .before .before .before .before .before .before .pre .1) (bears (c .before .before .before .before)) (form-there (c .before .before .before .before .before .before .before .before .before .before .before .before .before .before .before .args .table .now) (c .before .before .before .before .before .before .before .before .before .before .before .before .before .before .before .args .place) (c .before .before .before .before .before .before .before .before .before .before .before .before .before .before .before .pre .0 .passes) (c .before .before .before .before .numbers-at .ensures) (c .before .form-of .ensures)) (c .before .before .before .value-octets .ensures), simp (length-take, length-drop) (omega (arith, c .before .before .before .before .before .before .before .before .before .before .before .before .before .before .before .pre .2, ap length (piece (c .before)))))
+
+add-result : tie.Need-add-result
+add-result c = omega (arith, c .before .before .before .before .before .before .before .before .before .before .before .before .before .before .before .before .before .before .good, c .before .before .before .before .before .before .before .before .before .before .before .before .before .before .before .before .before .before .pre .2, c .before .before .put-ie .ensures .takes, ap length (piece (c .before .before .before .before)))
+
+written : tie.Need-returns-3
+written c =
+    let e = piece (c .before .before .before .before) in
+    rw e (put-from (c .before .before .before .before .before .before .before .before .before .before .before .before .before .before .before .before .before .before .args .at) _ (c .before .before .before .before .before .before .before .before .before .before .before .before .before .before .before .before .before .before .args .output .now) (omega (arith, c .before .before .before .before .before .before .before .before .before .before .before .before .before .before .before .before .before .before .pre .2, ap length e)) (c .before .before .put-ie .ensures .takes) (c .before .before .put-ie .ensures .octets))
 
 same-length : tie.Need-same-length
-same-length c = search needs
+same-length c = ap length (written c .octets) ∙ length-overAt (c .before .before .before .before .before .before .before .before .before .before .before .before .before .before .before .before .before .before .args .at) (addedPiece (filledOf (c .before .before .before .before .before .before .before .before .before .before .before .before .before .before .before .before .before .before .args .table .now) (c .before .before .before .before .before .before .before .before .before .before .before .before .before .before .before .before .before .before .args .rows .now) (c .before .before .before .before .before .before .before .before .before .before .before .before .before .before .before .before .before .before .args .received .now) (c .before .before .before .before .before .before .before .before .before .before .before .before .before .before .before .before .before .before .args .set .now)) (setOf (c .before .before .before .before .before .before .before .before .before .before .before .before .before .before .before .before .before .before .args .seen)) (c .before .before .before .before .before .before .before .before .before .before .before .before .before .before .before .before .before .before .args .place)) (c .before .before .before .before .before .before .before .before .before .before .before .before .before .before .before .before .before .before .args .output .now) (c .before .before .before .before .before .before .before .before .before .before .before .before .before .before .before .before .before .before .pre .2)
 
-returns-2 : tie.Need-returns-2
-unfolding addedPiece
-returns-2 c = rw (sym (c .before .before .before .before .before .before .seen-has .ensures) ∙ c .before .before .before .before .before .if1 .left, ← (c .before .before .before .before .first-iei .ensures)) (c .before .before .put-place .ensures)
+returns-3 : tie.Need-returns-3
+returns-3 c = written c
 
 pub put-first-spec : {M : Type 1} → statement M
 put-first-spec =
     tie.close
     (tie.spec
-    seen-has-requires
+    row-at-requires
     returns
-    first-iei-requires
-    cast-iei
-    put-place-requires
+    seen-has-requires
+    returns-2
+    numbers-at-requires
+    value-octets-requires
+    sub-put-ie
+    part-put-ie-start
+    part-put-ie-end
+    form-of-requires
+    cast-put-ie
+    put-ie-requires
+    add-result
     same-length
-    returns-2)
+    returns-3)

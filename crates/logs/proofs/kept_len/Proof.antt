@@ -2,17 +2,17 @@
 -- The measure is what is left of the log.
 use Prim.Native.Nat.{_-_}
 use native.Mathlib.Omega.{arith}
-use mathlib.Core.Path.{_≡_, sym, _∙_}
+use mathlib.Core.Path.{sym, _∙_}
 use lib.ListN.{length, drop}
 use Rattle.definitions.specs.Logs.{countAt}
 use Rattle.definitions.proofs.Logs.{entryOf}
 use Rattle.definitions.proofs.Lists.{to-end}
 use Rattle.definitions.proofs.LogSteps.{KeptEntry, kept-split, kept-stop}
 use Rattle.kept.proofs.Counts.{count-is, count-not}
-use Rattle.writing.proofs.Tallying.{Keeping, keeping-begun, keeping-step, keeping-ended}
+use Rattle.logs.proofs.Formed.{Keeping, keeping-begun, keeping-step, keeping-stopped, keeping-ended}
 use borrow.Author.Needs.{needs}
-use Rattle.writing.proofs.sizes.kept_len.Statement.{statement}
-use Rattle.writing.proofs.sizes.kept_len.Tie as tie
+use Rattle.logs.proofs.kept_len.Statement.{statement}
+use Rattle.logs.proofs.kept_len.Tie as tie
 
 abbrev Inv-loop : tie.InvT-loop
 Inv-loop kept at₀ octets₀ at octets = Keeping kept at octets
@@ -65,7 +65,7 @@ enum-told c = search needs
 returns : tie.Need-returns Inv-loop μ-loop
 returns c =
     let s = drop (c .before .before .before .before .before .loop .at) (c .before .before .before .before .before .before .before .args .kept .now) in
-    c .before .before .before .before .before .loop .inv .bad (kept-stop (c .before .before .before .before .before .before .before .args .kept .now) (c .before .before .before .before .before .loop .at) (c .before .before .before .before .loop-test .taken) (count-not (entryOf s (countAt s)) (sym (c .enum-told .given .1) ∙ rw to-end at (c .before .before .entry-at .ensures))))
+    keeping-stopped (c .before .before .before .before .before .before .before .args .kept .now) (c .before .before .before .before .before .loop .at) (c .before .before .before .before .before .loop .octets) (c .before .before .before .before .before .loop .inv) (kept-stop (c .before .before .before .before .before .before .before .args .kept .now) (c .before .before .before .before .before .loop .at) (c .before .before .before .before .loop-test .taken) (count-not (entryOf s (countAt s)) (sym (c .enum-told .given .1) ∙ rw to-end at (c .before .before .entry-at .ensures))))
 
 returns-2 : tie.Need-returns-2 Inv-loop μ-loop
 returns-2 c = keeping-ended (c .before .before .before .args .kept .now) (c .before .loop .at) (c .before .loop .octets) (c .before .loop .inv) (c .loop-test .left)

@@ -1,0 +1,74 @@
+// Both logs of a message checked at once, as writing and the findings do before anything else is made of them.
+use kept::Count;
+use kept::entry_at;
+use order::Front;
+use order::entry_len;
+use order::front_at;
+ghost use mathlib.Core.Path.{_≡_};
+ghost use Rattle.definitions.specs.Basic.{isNone};
+ghost use Rattle.definitions.specs.Logs.{orderList, keptList};
+ghost use Rattle.logs.specs.Checks.{keptOctets, checkedLogs};
+
+// Two logs that are well formed, with the octets of all kept elements; or the first that is not.
+pub enum Logs {
+    Formed(usize),
+    Order,
+    Kept,
+}
+
+// The octets of all elements of a kept log.
+pub enum Kept {
+    Octets(usize),
+    Malformed,
+}
+
+// Whether an order log is malformed.
+fn order_malformed(order: &[u8]) -> bool
+    ensures { λ r. ⌜ r ≡ isNone (orderList (now (order .entry))) ⌝ }
+{
+    let mut at = 0;
+    while at < order.len() {
+        match front_at(&order[at..]) {
+            Front::Is(entry) => {
+                at += entry_len(entry);
+            }
+            Front::Not => {
+                return true;
+            }
+        }
+    }
+    false
+}
+
+// A kept log measured to its end.
+fn kept_len(kept: &[u8]) -> Kept
+    ensures { λ r. ⌜ r ≡ keptOctets (keptList (now (kept .entry))) ⌝ }
+{
+    let mut at = 0;
+    let mut octets = 0;
+    while at < kept.len() {
+        match entry_at(&kept[at..]) {
+            Count::Is(value, took) => {
+                octets += value;
+                at += took + value;
+            }
+            Count::Not => {
+                return Kept::Malformed;
+            }
+        }
+    }
+    Kept::Octets(octets)
+}
+
+// The order log first, then the kept log.
+pub fn check_logs(order: &[u8], kept: &[u8]) -> Logs
+    ensures { λ r. ⌜ r ≡ checkedLogs (orderList (now (order .entry))) (keptList (now (kept .entry))) ⌝ }
+{
+    if order_malformed(order) {
+        return Logs::Order;
+    }
+    match kept_len(kept) {
+        Kept::Octets(octets) => Logs::Formed(octets),
+        Kept::Malformed => Logs::Kept,
+    }
+}

@@ -1,0 +1,91 @@
+-- `survey` looks at a place a turn: the invariant says that all before are well formed and fit, and how many octets their added elements take.
+-- The measure is how many places are left.
+use Prim.Native.Nat.{_+_, _-_}
+use native.Mathlib.Omega.{arith}
+use mathlib.Core.Path.{_≡_}
+use lib.ListN.{length}
+use Rattle.definitions.specs.Rows.{rowsOf}
+use Rattle.definitions.proofs.TableLaws.{few-places}
+use Rattle.seen.specs.Seen.{setOf}
+use Rattle.writing.specs.Walks.{filledOf}
+use Rattle.writing.proofs.Surveying.{Surveying, surveying-begun, surveying-bad, surveying-unfit, surveying-step, surveying-ended}
+use borrow.Author.Needs.{needs}
+use Rattle.writing.proofs.sizes.survey.Statement.{statement}
+use Rattle.writing.proofs.sizes.survey.Tie as tie
+
+abbrev Inv-loop : tie.InvT-loop
+Inv-loop table rows received set seen n octets₀ k₀ octets k = (n ≡ length (rowsOf table)) × Surveying (filledOf table rows received set) (setOf seen) k octets
+
+abbrev μ-loop : tie.MeasureT-loop
+μ-loop table rows received set seen n octets₀ k₀ octets k = n - k
+
+places-requires : tie.Need-places-requires Inv-loop μ-loop
+places-requires c κs = search needs
+
+loop-holds : tie.Need-loop-holds Inv-loop μ-loop
+loop-holds c = (c .places .ensures, surveying-begun (filledOf (c .before .before .before .before .before .args .table .now) (c .before .before .before .before .before .args .rows .now) (c .before .before .before .before .before .args .received .now) (c .before .before .before .before .before .args .set .now)) (setOf (c .before .before .before .before .before .args .seen)))
+
+look-requires : tie.Need-look-requires Inv-loop μ-loop
+look-requires c κs = c .before .before .before .before .before .before .before .pre
+
+enum-told : tie.Need-enum-told Inv-loop μ-loop
+enum-told c = search needs
+
+returns : tie.Need-returns Inv-loop μ-loop
+returns c = surveying-bad (filledOf (c .before .before .before .before .before .before .before .before .before .before .args .table .now) (c .before .before .before .before .before .before .before .before .before .before .args .rows .now) (c .before .before .before .before .before .before .before .before .before .before .args .received .now) (c .before .before .before .before .before .before .before .before .before .before .args .set .now)) (setOf (c .before .before .before .before .before .before .before .before .before .before .args .seen)) (c .before .before .before .before .loop .k) (c .before .before .before .before .loop .octets) (c .before .before .before .before .loop .inv .1) (omega (arith, c .before .before .before .before .loop .inv .0, c .before .before .before .loop-test .taken)) (rw (c .enum-told .given .1) at (c .before .before .look .ensures))
+
+enum-told-2 : tie.Need-enum-told-2 Inv-loop μ-loop
+enum-told-2 c = search needs
+
+unfit-or-bad-requires : tie.Need-unfit-or-bad-requires Inv-loop μ-loop
+unfit-or-bad-requires c κs = search needs
+
+returns-2 : tie.Need-returns-2 Inv-loop μ-loop
+returns-2 c = surveying-unfit (filledOf (c .before .before .before .before .before .before .before .before .before .before .before .args .table .now) (c .before .before .before .before .before .before .before .before .before .before .before .args .rows .now) (c .before .before .before .before .before .before .before .before .before .before .before .args .received .now) (c .before .before .before .before .before .before .before .before .before .before .before .args .set .now)) (setOf (c .before .before .before .before .before .before .before .before .before .before .before .args .seen)) (c .before .before .before .before .before .loop .k) (c .before .before .before .before .before .loop .octets) (c .before .before .before .before .before .loop .inv .1) (omega (arith, c .before .before .before .before .before .loop .inv .0, c .before .before .before .before .loop-test .taken)) (rw (c .before .enum-told2 .given .1) at (c .before .before .before .look .ensures)) (rw (c .before .before .before .before .before .loop .inv .0) at (c .unfit-or-bad .ensures))
+
+enum-known-len : tie.Need-enum-known-len Inv-loop μ-loop
+enum-known-len c = search needs
+
+if-added-requires : tie.Need-if-added-requires Inv-loop μ-loop
+if-added-requires c κs = search needs
+
+-- with a place more
+next : (c : tie.After-if-added Inv-loop μ-loop) → Surveying (filledOf (c .before .before .before .before .before .before .before .before .before .before .before .before .args .table .now) (c .before .before .before .before .before .before .before .before .before .before .before .before .args .rows .now) (c .before .before .before .before .before .before .before .before .before .before .before .before .args .received .now) (c .before .before .before .before .before .before .before .before .before .before .before .before .args .set .now)) (setOf (c .before .before .before .before .before .before .before .before .before .before .before .before .args .seen)) (c .before .before .before .before .before .before .loop .k + 1) (c .before .before .before .before .before .before .loop .octets + c .if-added .result)
+next c = surveying-step (filledOf (c .before .before .before .before .before .before .before .before .before .before .before .before .args .table .now) (c .before .before .before .before .before .before .before .before .before .before .before .before .args .rows .now) (c .before .before .before .before .before .before .before .before .before .before .before .before .args .received .now) (c .before .before .before .before .before .before .before .before .before .before .before .before .args .set .now)) (setOf (c .before .before .before .before .before .before .before .before .before .before .before .before .args .seen)) (c .before .before .before .before .before .before .loop .k) (c .before .before .before .before .before .before .loop .octets) (c .before .before .before .before .before .before .loop .inv .1) (omega (arith, c .before .before .before .before .before .before .loop .inv .0, c .before .before .before .before .before .loop-test .taken)) (rw (c .before .before .len .given .1) at (c .before .before .before .before .look .ensures)) (c .if-added .ensures)
+
+add-octets : tie.Need-add-octets Inv-loop μ-loop
+add-octets c = omega (arith, next c .few, few-places (rowsOf (c .before .before .before .before .before .before .before .before .before .before .before .before .args .table .now)) (c .before .before .before .before .before .before .before .before .before .before .before .before .pre .0), next c .inside)
+
+add-k : tie.Need-add-k Inv-loop μ-loop
+add-k c = omega arith
+
+loop-less : tie.Need-loop-less Inv-loop μ-loop
+loop-less c = omega arith
+
+loop-again : tie.Need-loop-again Inv-loop μ-loop
+loop-again c = (c .before .before .before .before .before .before .loop .inv .0, next c)
+
+returns-3 : tie.Need-returns-3 Inv-loop μ-loop
+returns-3 c = surveying-ended (filledOf (c .before .before .before .before .before .before .before .args .table .now) (c .before .before .before .before .before .before .before .args .rows .now) (c .before .before .before .before .before .before .before .args .received .now) (c .before .before .before .before .before .before .before .args .set .now)) (setOf (c .before .before .before .before .before .before .before .args .seen)) (c .before .loop .k) (c .before .loop .octets) (c .before .loop .inv .1) (omega (arith, c .before .loop .inv .0, c .loop-test .left)) (few-places (rowsOf (c .before .before .before .before .before .before .before .args .table .now)) (c .before .before .before .before .before .before .before .pre .0))
+
+pub survey-spec : {M : Type 1} → statement M
+survey-spec =
+    tie.close
+    (tie.spec
+    Inv-loop
+    μ-loop
+    places-requires
+    loop-holds
+    look-requires
+    enum-told
+    returns
+    enum-told-2
+    unfit-or-bad-requires
+    returns-2
+    enum-known-len
+    if-added-requires
+    add-octets
+    add-k
+    loop-less
+    loop-again
+    returns-3)
