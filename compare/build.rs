@@ -78,7 +78,8 @@ fn main() {
         fs::write(out.join(file), items.join("\n")).unwrap();
     }
     if env::var("CARGO_FEATURE_LINKED").is_ok() {
-        link(&root.join("target/staticlib"));
+        println!("cargo:rerun-if-env-changed=NAS_LIB");
+        link(&env::var("NAS_LIB").map_or(root.join("target/staticlib/libnas.a"), PathBuf::from));
         let header = root.join("include/nas.h");
         println!("cargo:rerun-if-changed={}", header.display());
         let text = fs::read_to_string(&header).unwrap_or_else(|error| fail(format!("{}: {error}", header.display())));
@@ -152,14 +153,16 @@ fn begins(line: &str, head: &str) -> bool {
     line.strip_prefix(head).is_some_and(|rest| !rest.starts_with(|c: char| c.is_alphanumeric() || c == '_'))
 }
 
-fn link(folder: &Path) {
-    let library = folder.join("libnas.a");
+fn link(library: &Path) {
     println!("cargo:rerun-if-changed={}", library.display());
-    if !library.exists() {
-        fail("target/staticlib/libnas.a is not there: `rt staticlib nas` makes it, and compare/run calls that.".into());
-    }
+    let (Some(folder), Some(name), true) = (library.parent(), library.file_name(), library.exists()) else {
+        fail(format!(
+            "{} is not there: `rt staticlib nas` makes libnas.a, and compare/run calls that.",
+            library.display()
+        ))
+    };
     println!("cargo:rustc-link-search=native={}", folder.display());
-    println!("cargo:rustc-link-lib=static=nas");
+    println!("cargo:rustc-link-lib=static:+verbatim={}", name.display());
 }
 
 /// The family of a function, as a feature; none where every library has it.
