@@ -32,8 +32,9 @@ mod linked_mandatory;
 #[cfg(feature = "linked-writing")]
 mod linked_writing;
 pub mod oracle;
-mod oracle_findings;
-mod oracle_mandatory;
+pub mod oracle_findings;
+pub mod oracle_logs;
+pub mod oracle_mandatory;
 pub mod oracle_writing;
 pub mod random;
 pub mod recorded;
