@@ -3,6 +3,11 @@
 pub mod calls;
 mod common;
 pub mod cores;
+#[cfg(feature = "linked")]
+mod declared {
+    //! The functions of libnas.a, as include/nas.h declares them.
+    include!(concat!(env!("OUT_DIR"), "/declared.rs"));
+}
 mod drive_findings;
 mod drive_logs;
 mod drive_mandatory;
