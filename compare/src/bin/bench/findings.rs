@@ -53,11 +53,14 @@ pub fn findings(sides: &Sides) -> Result<(), String> {
         let room = 2 * order.used;
         let call =
             Call::Findings { table: lent_table.clone(), kept: kept.clone(), order: order.clone(), findings: room };
-        // What is right is found by many calls of the Rust, too many where there are findings at every entry.
+        // Where the Rust is not measured, the judge says how many there are: the Rust would be called for each of them.
         let found = match rust {
             true => sides.done(&name, &call)?[0] as usize,
-            false => call.on(&*sides.ours).said()[0] as usize,
+            false => Model::new(lent_table).findings(&kept.octets, &order.octets).len(),
         };
+        if call.on(&*sides.ours).said() != [found as u64] {
+            return Err(name);
+        }
         let mut found = vec![0; 2 * found];
         let mut values = [0; 5];
         let mut ours = || {
