@@ -1,5 +1,5 @@
 //! Takes the functions of the Rust out of its given files, by the names of their items, into the build's own folder.
-//! With the feature `linked`, also says where libnas.a is.
+//! With the feature `linked`, also says where libnas.a is, and declares its functions as include/nas.h does.
 
 use std::path::{Path, PathBuf};
 use std::{env, fs, process};
@@ -78,11 +78,14 @@ fn main() {
         fs::write(out.join(file), items.join("\n")).unwrap();
     }
     if env::var("CARGO_FEATURE_LINKED").is_ok() {
-        link(&root.join("target/staticlib"));
+        println!("cargo:rerun-if-env-changed=NAS_LIB");
+        link(&env::var("NAS_LIB").map_or(root.join("target/staticlib/libnas.a"), PathBuf::from));
         let header = root.join("include/nas.h");
         println!("cargo:rerun-if-changed={}", header.display());
         let text = fs::read_to_string(&header).unwrap_or_else(|error| fail(format!("{}: {error}", header.display())));
-        fs::write(out.join("functions.rs"), functions(&text)).unwrap();
+        let (declared, functions) = functions(&text);
+        fs::write(out.join("declared.rs"), declared).unwrap();
+        fs::write(out.join("functions.rs"), functions).unwrap();
     }
 }
 
@@ -152,14 +155,16 @@ fn begins(line: &str, head: &str) -> bool {
     line.strip_prefix(head).is_some_and(|rest| !rest.starts_with(|c: char| c.is_alphanumeric() || c == '_'))
 }
 
-fn link(folder: &Path) {
-    let library = folder.join("libnas.a");
+fn link(library: &Path) {
     println!("cargo:rerun-if-changed={}", library.display());
-    if !library.exists() {
-        fail("target/staticlib/libnas.a is not there: `rt staticlib nas` makes it, and compare/run calls that.".into());
-    }
+    let (Some(folder), Some(name), true) = (library.parent(), library.file_name(), library.exists()) else {
+        fail(format!(
+            "{} is not there: `rt staticlib nas` makes libnas.a, and compare/run calls that.",
+            library.display()
+        ))
+    };
     println!("cargo:rustc-link-search=native={}", folder.display());
-    println!("cargo:rustc-link-lib=static=nas");
+    println!("cargo:rustc-link-lib=static:+verbatim={}", name.display());
 }
 
 /// The family of a function, as a feature; none where every library has it.
@@ -174,9 +179,9 @@ fn family(name: &str) -> Option<&'static str> {
     }
 }
 
-/// The functions of the header for the program hostile: their declarations, what each parameter takes, and how each is called.
-/// What cannot be called so is an error, so that no function is forgotten.
-fn functions(header: &str) -> String {
+/// The functions of the header: their declarations, and, for the program hostile, what each parameter takes and how each is
+/// called. What cannot be called so is an error, so that no function is forgotten.
+fn functions(header: &str) -> (String, String) {
     let lines = without_comments(header);
     let text: String = lines.lines().filter(|line| !line.trim_start().starts_with('#')).collect::<Vec<_>>().join(" ");
     let (mut declared, mut calls, mut list, mut left_out) =
@@ -204,24 +209,23 @@ fn functions(header: &str) -> String {
                         fail(format!("include/nas.h: {name} has no length behind {of}"));
                     }
                     let pointer = if constant { "*const" } else { "*mut" };
-                    types.extend([format!("{pointer} u{bits}"), "usize".into()]);
+                    types.extend([format!("{of}: {pointer} u{bits}"), format!("{of}_len: usize")]);
                     given.extend([format!("a[{k}].pointer.cast()"), format!("a[{k}].length")]);
                     kinds.push(format!("({of:?}, Kind::Slice {{ width: {}, changes: {} }})", bits / 8, !constant));
                 }
                 Parameter::Array { name: of, bits, count } => {
-                    types.push(format!("*mut u{bits}"));
+                    types.push(format!("{of}: *mut u{bits}"));
                     given.push(format!("a[{k}].pointer.cast()"));
                     kinds.push(format!("({of:?}, Kind::Array {{ width: {}, count: {count} }})", bits / 8));
                 }
                 Parameter::Number { name: of, kind } => {
-                    types.push(kind.into());
+                    types.push(format!("{of}: {kind}"));
                     given.push(format!("a[{k}].number as {kind}"));
                     kinds.push(format!("({of:?}, Kind::Number)"));
                 }
             }
         }
-        let types: Vec<String> = types.iter().enumerate().map(|(k, kind)| format!("p{k}: {kind}")).collect();
-        declared += &format!("    fn {name}({}) -> u32;\n", types.join(", "));
+        declared += &format!("    pub fn {name}({}) -> u32;\n", types.join(", "));
         calls += &format!(
             "unsafe fn call_{name}(a: &[Argument]) -> u32 {{\n    unsafe {{ {name}({}) }}\n}}\n",
             given.join(", ")
@@ -229,9 +233,9 @@ fn functions(header: &str) -> String {
         list +=
             &format!("    Function {{ name: {name:?}, parameters: &[{}], call: call_{name} }},\n", kinds.join(", "));
     }
-    format!(
-        "unsafe extern \"C\" {{\n{declared}}}\n{calls}static FUNCTIONS: &[Function] = &[\n{list}];\n\
-         static LEFT_OUT: &[&str] = &[{left_out}];\n"
+    (
+        format!("unsafe extern \"C\" {{\n{declared}}}\n"),
+        format!("{calls}static FUNCTIONS: &[Function] = &[\n{list}];\nstatic LEFT_OUT: &[&str] = &[{left_out}];\n"),
     )
 }
 

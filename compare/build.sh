@@ -1,5 +1,5 @@
 # Builds the programs of this folder; the scripts beside it source it with their arguments. Without --model it makes libnas.a
-# first and links it.
+# first (library.sh) and links it.
 
 # The families of calls that libnas.a has besides the pieces and reading, of linked-editing, linked-writing,
 # linked-mandatory, linked-findings (Cargo.toml), with blanks between them. A family is added when libnas.a has its calls; the
@@ -13,10 +13,6 @@ fi
 if [[ " $* " == *" --model "* ]]; then
   cargo build --release --offline --quiet
 else
-  if ! command -v rt > /dev/null; then
-    echo "rt is not there: it makes libnas.a. With --model the comparison runs without it." >&2
-    exit 2
-  fi
-  (cd .. && rt staticlib nas)
+  source ./library.sh
   cargo build --release --offline --quiet --features "linked $families"
 fi

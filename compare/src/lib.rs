@@ -3,6 +3,11 @@
 pub mod calls;
 mod common;
 pub mod cores;
+#[cfg(feature = "linked")]
+mod declared {
+    //! The functions of libnas.a, as include/nas.h declares them.
+    include!(concat!(env!("OUT_DIR"), "/declared.rs"));
+}
 mod drive_findings;
 mod drive_logs;
 mod drive_mandatory;
@@ -32,8 +37,9 @@ mod linked_mandatory;
 #[cfg(feature = "linked-writing")]
 mod linked_writing;
 pub mod oracle;
-mod oracle_findings;
-mod oracle_mandatory;
+pub mod oracle_findings;
+pub mod oracle_logs;
+pub mod oracle_mandatory;
 pub mod oracle_writing;
 pub mod random;
 pub mod recorded;

@@ -1,38 +1,8 @@
 //! Our side's edits: the C interface of libnas.a.
 
+use crate::declared::{nas_clear, nas_set};
 use crate::interface::{Edited, Editing, Used, Values};
 use crate::linked::Linked;
-
-unsafe extern "C" {
-    fn nas_set(
-        table: *const u32,
-        table_len: usize,
-        rows: *mut u32,
-        rows_len: usize,
-        received: *const u8,
-        received_len: usize,
-        set: *mut u8,
-        set_len: usize,
-        used: usize,
-        place: usize,
-        value: *const u8,
-        value_len: usize,
-        values: *mut Values,
-    ) -> u32;
-    fn nas_clear(
-        table: *const u32,
-        table_len: usize,
-        rows: *mut u32,
-        rows_len: usize,
-        received: *const u8,
-        received_len: usize,
-        set: *const u8,
-        set_len: usize,
-        used: usize,
-        place: usize,
-        values: *mut Values,
-    ) -> u32;
-}
 
 impl Editing for Linked {
     fn set(&self, table: &[u32], edited: Edited<'_>, value: &[u8], values: &mut Values) -> u32 {
@@ -51,7 +21,7 @@ impl Editing for Linked {
                 place,
                 value.as_ptr(),
                 value.len(),
-                values,
+                values.as_mut_ptr(),
             )
         }
     }
@@ -77,7 +47,7 @@ impl Editing for Linked {
                 set.octets.len(),
                 set.used,
                 place,
-                values,
+                values.as_mut_ptr(),
             )
         }
     }

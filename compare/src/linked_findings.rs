@@ -1,23 +1,8 @@
 //! Our side's findings: the C interface of libnas.a.
 
+use crate::declared::nas_findings;
 use crate::interface::{Findings, Used, Values};
 use crate::linked::Linked;
-
-unsafe extern "C" {
-    fn nas_findings(
-        table: *const u32,
-        table_len: usize,
-        kept: *const u8,
-        kept_len: usize,
-        kept_used: usize,
-        order: *const u8,
-        order_len: usize,
-        order_used: usize,
-        findings: *mut u32,
-        findings_len: usize,
-        values: *mut Values,
-    ) -> u32;
-}
 
 impl Findings for Linked {
     fn findings(
@@ -40,7 +25,7 @@ impl Findings for Linked {
                 order.used,
                 findings.as_mut_ptr(),
                 findings.len(),
-                values,
+                values.as_mut_ptr(),
             )
         }
     }

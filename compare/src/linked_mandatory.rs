@@ -1,58 +1,8 @@
 //! Our side's mandatory rows: the C interface of libnas.a.
 
+use crate::declared::{nas_read_mandatory, nas_read_mandatory_by, nas_write_mandatory, nas_write_mandatory_by};
 use crate::interface::{Mandatory, Notes, Used, Values};
 use crate::linked::Linked;
-
-unsafe extern "C" {
-    fn nas_read_mandatory(
-        part: *const u8,
-        part_len: usize,
-        table: *const u32,
-        table_len: usize,
-        lenient: u8,
-        rows: *mut u32,
-        rows_len: usize,
-        notes: *mut Notes,
-        values: *mut Values,
-    ) -> u32;
-    fn nas_read_mandatory_by(
-        number: u32,
-        part: *const u8,
-        part_len: usize,
-        lenient: u8,
-        rows: *mut u32,
-        rows_len: usize,
-        notes: *mut Notes,
-        values: *mut Values,
-    ) -> u32;
-    fn nas_write_mandatory(
-        table: *const u32,
-        table_len: usize,
-        rows: *const u32,
-        rows_len: usize,
-        received: *const u8,
-        received_len: usize,
-        set: *const u8,
-        set_len: usize,
-        set_used: usize,
-        output: *mut u8,
-        output_len: usize,
-        values: *mut Values,
-    ) -> u32;
-    fn nas_write_mandatory_by(
-        number: u32,
-        rows: *const u32,
-        rows_len: usize,
-        received: *const u8,
-        received_len: usize,
-        set: *const u8,
-        set_len: usize,
-        set_used: usize,
-        output: *mut u8,
-        output_len: usize,
-        values: *mut Values,
-    ) -> u32;
-}
 
 impl Mandatory for Linked {
     fn read_mandatory(
@@ -73,8 +23,8 @@ impl Mandatory for Linked {
                 lenient,
                 rows.as_mut_ptr(),
                 rows.len(),
-                notes,
-                values,
+                notes.as_mut_ptr(),
+                values.as_mut_ptr(),
             )
         }
     }
@@ -96,8 +46,8 @@ impl Mandatory for Linked {
                 lenient,
                 rows.as_mut_ptr(),
                 rows.len(),
-                notes,
-                values,
+                notes.as_mut_ptr(),
+                values.as_mut_ptr(),
             )
         }
     }
@@ -124,7 +74,7 @@ impl Mandatory for Linked {
                 set.used,
                 output.as_mut_ptr(),
                 output.len(),
-                values,
+                values.as_mut_ptr(),
             )
         }
     }
@@ -150,7 +100,7 @@ impl Mandatory for Linked {
                 set.used,
                 output.as_mut_ptr(),
                 output.len(),
-                values,
+                values.as_mut_ptr(),
             )
         }
     }

@@ -1,49 +1,8 @@
 //! Our side's writing: the C interface of libnas.a.
 
+use crate::declared::{nas_write, nas_write_by};
 use crate::interface::{Message, Values, Writing};
 use crate::linked::Linked;
-
-unsafe extern "C" {
-    fn nas_write(
-        table: *const u32,
-        table_len: usize,
-        rows: *const u32,
-        rows_len: usize,
-        received: *const u8,
-        received_len: usize,
-        set: *const u8,
-        set_len: usize,
-        set_used: usize,
-        kept: *const u8,
-        kept_len: usize,
-        kept_used: usize,
-        order: *const u8,
-        order_len: usize,
-        order_used: usize,
-        output: *mut u8,
-        output_len: usize,
-        values: *mut Values,
-    ) -> u32;
-    fn nas_write_by(
-        number: u32,
-        rows: *const u32,
-        rows_len: usize,
-        received: *const u8,
-        received_len: usize,
-        set: *const u8,
-        set_len: usize,
-        set_used: usize,
-        kept: *const u8,
-        kept_len: usize,
-        kept_used: usize,
-        order: *const u8,
-        order_len: usize,
-        order_used: usize,
-        output: *mut u8,
-        output_len: usize,
-        values: *mut Values,
-    ) -> u32;
-}
 
 impl Writing for Linked {
     fn write(&self, table: &[u32], message: Message<'_>, output: &mut [u8], values: &mut Values) -> u32 {
@@ -67,7 +26,7 @@ impl Writing for Linked {
                 order.used,
                 output.as_mut_ptr(),
                 output.len(),
-                values,
+                values.as_mut_ptr(),
             )
         }
     }
@@ -92,7 +51,7 @@ impl Writing for Linked {
                 order.used,
                 output.as_mut_ptr(),
                 output.len(),
-                values,
+                values.as_mut_ptr(),
             )
         }
     }

@@ -2,6 +2,12 @@
 
 use crate::common::{self, IeOrder, Placed, UnknownIes};
 use crate::oracle::Table;
+use crate::oracle_writing::Logs;
+
+/// How many findings both logs have, each with its text.
+pub fn count(table: &Table, logs: &Logs) -> usize {
+    common::optional_ie_order_findings(table.index(), &logs.order, &logs.kept).len()
+}
 
 /// The kinds of the findings of an order log.
 fn kinds(table: &Table, kept: &UnknownIes, order: &[u8]) -> Vec<u32> {

@@ -4,7 +4,7 @@
 use crate::common::{self, IeFault, NasError, Reader, Reading, nas_message};
 use crate::judge_mandatory::{FilledRows, RowsRead};
 use crate::oracle_writing::{Framed, Half};
-use crate::rows::{MandatoryForm, MandatoryRow};
+use crate::rows::{MandatoryForm, MandatoryRow, PLACE};
 
 /// The field of each row. The Rust names a fault by its field.
 const FIELDS: [&str; 32] = [
@@ -58,13 +58,33 @@ fn number(error: &NasError) -> (u32, usize) {
     (number, FIELDS.iter().position(|field| *field == ie.field()).unwrap_or(usize::MAX))
 }
 
-/// `decode_mandatory_ie` over the rows of a table.
-pub fn read_rows(rows: &[MandatoryRow], part: &[u8], lenient: bool) -> RowsRead {
-    let mut faults = Vec::new();
-    let mut reading = if lenient { Reading::keeping(&mut faults) } else { Reading::strict() };
-    let mut done = RowsRead::default();
+/// A fault, as the Rust has it.
+pub struct Fault(NasError);
+
+/// The faults that a lenient reading notes.
+#[derive(Default)]
+pub struct Noted(Vec<NasError>);
+
+impl Noted {
+    /// Empty them, and keep their room.
+    pub fn clear(&mut self) {
+        self.0.clear();
+    }
+}
+
+/// `decode_mandatory_ie` over the rows of a table, each into its row of `places`, as far as none is refused: how many octets
+/// were read, and the fault that refuses.
+pub fn read_rows_into(
+    rows: &[MandatoryRow],
+    part: &[u8],
+    lenient: bool,
+    places: &mut [u32],
+    noted: &mut Noted,
+) -> (usize, Option<Fault>) {
+    let mut reading = if lenient { Reading::keeping(&mut noted.0) } else { Reading::strict() };
+    let mut read = 0;
     let mut left = part;
-    for (row, field) in rows.iter().zip(FIELDS) {
+    for ((row, field), place) in rows.iter().zip(FIELDS).zip(places.chunks_exact_mut(PLACE)) {
         let decoded = common::decode_mandatory_ie(
             &mut left,
             field,
@@ -75,16 +95,25 @@ pub fn read_rows(rows: &[MandatoryRow], part: &[u8], lenient: bool) -> RowsRead 
             &mut reading,
         );
         match decoded {
-            Ok(value) => done.rows.extend([1, value.start as u32, value.length as u32]),
-            Err(error) => {
-                done.refused = Some(number(&error));
-                break;
-            }
+            Ok(value) => place.copy_from_slice(&[1, value.start as u32, value.length as u32]),
+            Err(error) => return (read, Some(Fault(error))),
         }
-        done.read = part.len() - left.len();
+        read = part.len() - left.len();
     }
-    done.notes = faults.iter().map(number).flat_map(|(number, row)| [row as u32, number]).collect();
-    done
+    (read, None)
+}
+
+/// The same with rows and notes of its own.
+pub fn read_rows(rows: &[MandatoryRow], part: &[u8], lenient: bool) -> RowsRead {
+    let mut places = vec![0; PLACE * rows.len()];
+    let mut noted = Noted::default();
+    let (read, fault) = read_rows_into(rows, part, lenient, &mut places, &mut noted);
+    let refused = fault.map(|fault| number(&fault.0));
+    if let Some((_, row)) = refused {
+        places.truncate(PLACE * row);
+    }
+    let notes = noted.0.iter().map(number).flat_map(|(number, row)| [row as u32, number]).collect();
+    RowsRead { refused, read, rows: places, notes }
 }
 
 /// A row's value, as the macro's arms name it.
@@ -120,13 +149,18 @@ fn encode(form: MandatoryForm, received: bool, octets: &[u8], buffer: &mut Vec<u
     Ok(())
 }
 
-/// The rows by the macro's arms.
-pub fn write_rows(filled: &FilledRows<'_>) -> Vec<u8> {
-    let mut buffer = Vec::new();
+/// The rows by the macro's arms, behind what is in `buffer`.
+pub fn write_rows_into(filled: &FilledRows<'_>, buffer: &mut Vec<u8>) {
     for (k, row) in filled.table.iter().enumerate() {
         let (place, octets) = filled.value(k);
-        let written = encode(row.form, place.source == 1, octets, &mut buffer);
+        let written = encode(row.form, place.source == 1, octets, buffer);
         assert!(written.is_ok(), "values that fit their forms are written");
     }
+}
+
+/// The same into octets of its own.
+pub fn write_rows(filled: &FilledRows<'_>) -> Vec<u8> {
+    let mut buffer = Vec::new();
+    write_rows_into(filled, &mut buffer);
     buffer
 }

@@ -28,8 +28,8 @@ impl Framed<'_> {
 
 /// Both logs of a message that is written, as the Rust has them.
 pub struct Logs {
-    kept: UnknownIes,
-    order: IeOrder,
+    pub(crate) kept: UnknownIes,
+    pub(crate) order: IeOrder,
 }
 
 impl Logs {

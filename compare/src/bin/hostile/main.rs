@@ -43,6 +43,7 @@ pub struct Function {
 }
 
 // The declarations of the header, `FUNCTIONS`, and `LEFT_OUT`, the names of those that libnas.a is linked without.
+include!(concat!(env!("OUT_DIR"), "/declared.rs"));
 include!(concat!(env!("OUT_DIR"), "/functions.rs"));
 
 unsafe extern "C" {
