@@ -8,9 +8,11 @@ use crate::columns::numbers_at;
 use crate::columns::places;
 use crate::marks::NO_PLACE;
 use crate::marks::both;
+use crate::marks::enter_good;
 use crate::marks::enter_row;
+use crate::marks::mark_of;
 ghost use mathlib.Core.Path.{_≡_};
-ghost use mathlib.Core.Bool.{_&&_, _||_, not};
+ghost use mathlib.Core.Bool.{true, _&&_, _||_, not};
 ghost use mathlib.Core.Option.{none};
 ghost use Prim.Native.Nat.{_+_, _<_, suc};
 ghost use lib.ListN.{length, drop};
@@ -43,42 +45,47 @@ fn size_fits(code: u32, size: usize) -> bool
     size <= 255
 }
 
-// The ranges of a row's numbers.
-fn in_range(table: &[u32], place: usize) -> bool
-    ensures { λ r. ⌜ r ≡ inRange (rowAt (rowsOf (now (table .entry))) place) ⌝ }
+// The ranges of a row's numbers behind its IEIs.
+fn in_range(code: u32, size: usize, least: usize, kinds: u32) -> bool
+    ensures { λ r. ⌜ r ≡ inRange code size least kinds ⌝ }
+{
+    if kinds < 1 {
+        return false;
+    }
+    if kinds > 255 {
+        return false;
+    }
+    if code > 3 {
+        return false;
+    }
+    if !size_fits(code, size) {
+        return false;
+    }
+    least <= 65_538
+}
+
+// A row, its IEIs entered where it passes. Most rows list one, which needs no walk; an unfinished row has no set of kinds.
+fn row_passes(table: &[u32], place: usize, index: &mut [u8; 256]) -> bool
+    ensures { λ r. ⌜ (r ≡ passes place (rowAt (rowsOf (now (table .entry))) place) (now (index .entry))) × (r ≡ true → now (index .exit) ≡ enterRow place (rowAt (rowsOf (now (table .entry))) place) (now (index .entry))) ⌝ }
 {
     let row = numbers_at(table, place);
+    if !in_range(row.code, row.size, row.least, row.kinds) {
+        return false;
+    }
+    if row.count == 1 {
+        return enter_good(index, row.code == 0, row.first, mark_of(place));
+    }
     if row.count < 1 {
         return false;
     }
     if row.count > 4 {
         return false;
     }
-    if row.code > 3 {
-        return false;
-    }
-    if !size_fits(row.code, row.size) {
-        return false;
-    }
-    if row.least > 65_538 {
-        return false;
-    }
-    if row.kinds < 1 {
-        return false;
-    }
-    row.kinds <= 255
-}
-
-// A row, with its IEIs entered.
-fn row_passes(table: &[u32], place: usize, index: &mut [u8]) -> bool
-    ensures { λ r. ⌜ (r ≡ passes place (rowAt (rowsOf (now (table .entry))) place) (now (index .entry))) × (now (index .exit) ≡ enterRow place (rowAt (rowsOf (now (table .entry))) place) (now (index .entry))) ⌝ }
-{
-    let entered = enter_row(table, place, index);
-    both(in_range(table, place), entered)
+    enter_row(table, place, index)
 }
 
 // The rows one after the other, up to the first bad one; of a table that passes, all IEIs are entered.
-fn check_rows(table: &[u32], index: &mut [u8]) -> Checked
+fn check_rows(table: &[u32], index: &mut [u8; 256]) -> Checked
     ensures { λ r. ⌜ (checkedAs r ≡ badFrom 0 (now (index .entry)) (rowsOf (now (table .entry)))) × (badFrom 0 (now (index .entry)) (rowsOf (now (table .entry))) ≡ none → now (index .exit) ≡ indexed 0 (now (index .entry)) (rowsOf (now (table .entry)))) ⌝ }
 {
     let n = places(table);
