@@ -110,17 +110,19 @@ pub fn check_table(table: &[u32]) -> Checked
     check_rows(table, &mut entries)
 }
 
-// The same, and the index of a table that passes; the entries are as they were where the table fails.
+// The same, and the index of a table that passes; the entries are as they were where the table fails. IEIs are entered in the lent
+// array itself: for a caller who reads it only of a table that passes, the compiled code copies nothing.
 pub fn check_and_index(table: &[u32], entries: &mut [u8; 256]) -> Checked
     ensures { λ r. ⌜ (checkedAs r ≡ firstBad (rowsOf (now (table .entry)))) × (now (entries .exit) ≡ pick (isNone (firstBad (rowsOf (now (table .entry))))) (index (rowsOf (now (table .entry)))) (now (entries .entry))) ⌝ }
 {
-    let mut found = [NO_PLACE; 256];
-    match check_rows(table, &mut found) {
-        Checked::Passes => {
-            *entries = found;
-            Checked::Passes
+    let lent = *entries;
+    *entries = [NO_PLACE; 256];
+    match check_rows(table, entries) {
+        Checked::Passes => Checked::Passes,
+        Checked::BadRow(k) => {
+            *entries = lent;
+            Checked::BadRow(k)
         }
-        Checked::BadRow(k) => Checked::BadRow(k),
     }
 }
 

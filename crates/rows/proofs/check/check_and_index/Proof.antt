@@ -1,5 +1,5 @@
--- `check_and_index` checks the rows with an array of its own, and hands it out where the table passes.
--- Then its entries are the index; else the lent ones are as they were.
+-- `check_and_index` checks the rows in the lent entries, with none entered at first.
+-- Of a table that passes they are its index; else they are put back as they were.
 use mathlib.Core.Path.{ap, sym, _∙_}
 use Prim.Native.Nat.{ℕ}
 use mathlib.Core.Option.{Option}
@@ -23,7 +23,7 @@ enum-known-k c = search needs
 returns : tie.Need-returns
 unfolding isNone
 returns c =
-    let a = c .before .before .before .before .before .args in
+    let a = c .before .before .before .before .before .before .before .args in
     let rs = rowsOf (a .table .now) in
     let e = ap checkedAs (sym (c .enum-told .given .1)) ∙ c .before .before .check-rows .ensures .0 in
     let f = e ∙ bad-rows rs in
@@ -32,7 +32,7 @@ returns c =
 returns-2 : tie.Need-returns-2
 unfolding isNone
 returns-2 c =
-    let a = c .before .before .before .before .before .before .args in
+    let a = c .before .before .before .before .before .before .before .before .args in
     let rs = rowsOf (a .table .now) in
     let e = ap checkedAs (sym (c .before .k .given .1)) ∙ c .before .before .before .check-rows .ensures .0 in
     let f = e ∙ bad-rows rs in
@@ -40,10 +40,4 @@ returns-2 c =
 
 pub check-and-index-spec : {M : Type 1} → statement M
 check-and-index-spec =
-    tie.close
-    (tie.spec
-    check-rows-requires
-    enum-told
-    enum-known-k
-    returns
-    returns-2)
+    tie.close (tie.spec check-rows-requires enum-told enum-known-k returns returns-2)
