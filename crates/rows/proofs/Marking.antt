@@ -4,7 +4,7 @@ use Prim.Native.Nat.{ℕ, suc, _≤_, _<_, min}
 use native.Mathlib.Omega.{arith}
 use mathlib.Core.Path.{_≡_, refl, ap, sym, _∙_}
 use mathlib.Core.List.{List, [], _∷_, _++_}
-use mathlib.Core.Bool.{Bool, true, false, _&&_, _||_, not}
+use mathlib.Core.Bool.{Bool, true, false, _&&_, _||_, not, and-assoc}
 use mathlib.Core.Option.{some, Option·getD}
 use borrow.Author.Tests.{eqb-true, eqb-false, ne-eqb, leb-true, ltb-true}
 use lib.ListN.{length, getD, set, length-set, getD-replicate}
@@ -14,7 +14,7 @@ use Rattle.definitions.specs.Basic.{pick, among}
 use Rattle.definitions.specs.Rows.{Row, ieis, goodIei, allGood, fresh, goodRow, mostPlaces, firstBadFrom, firstBad, placeFrom, placeOf, noPlace, indexEntry, index}
 use Rattle.definitions.proofs.RowLaws.{both}
 use Rattle.definitions.proofs.TableLaws.{index-length, index-at}
-use Rattle.rows.specs.Marks.{blank, free, enter, enterAll, enters, markOf, enterRow, inRange, passes, badFrom, indexed}
+use Rattle.rows.specs.Marks.{blank, free, enter, enterAll, enters, markOf, enterRow, inRange, ieisPass, passes, badFrom, indexed}
 
 -- ---- an entry after IEIs were entered
 
@@ -129,20 +129,24 @@ enters-fresh h mark (i ∷ is) ix used k m = go (goodIei h i) refl (enters-fresh
         (swap (not (among i used)) (allGood h is) (fresh (i ∷ used) is))
 
 row-passes : (k : ℕ) (r : Row) (ix used : List ℕ) → k < 128 → Marks ix used → passes k r ix ≡ goodRow used r
-unfolding passes inRange goodRow
+unfolding passes inRange ieisPass goodRow
 row-passes k r ix used h m =
-    ap (λ (b : Bool). inRange r && b) (enters-fresh (eqb (r .code) 0) (markOf k) (ieis r) ix used (omega arith) m)
-    ∙ seven (leb 1 (r .count)) (leb (r .count) 4) (leb (r .code) 3) (not (eqb (r .code) 1) || leb (r .size) 255) (leb (r .least) 65538) (leb 1 (r .kinds)) (leb (r .kinds) 255)
-    (allGood (eqb (r .code) 0) (ieis r) && fresh used (ieis r))
+    rw (enters-fresh (eqb (r .code) 0) (markOf k) (ieis r) ix used (omega arith) m)
+    (sort (leb 1 (r .count)) (leb (r .count) 4) (leb (r .code) 3) (not (eqb (r .code) 1) || leb (r .size) 255) (leb (r .least) 65538) (leb 1 (r .kinds)) (leb (r .kinds) 255)
+    (allGood (eqb (r .code) 0) (ieis r) && fresh used (ieis r)))
   where
-    seven : (a b c d e f g h : Bool) → ((a && (b && (c && (d && (e && (f && g)))))) && h) ≡ (a && (b && (c && (d && (e && (f && (g && h)))))))
-    seven false b c d e f g h = refl
-    seven true false c d e f g h = refl
-    seven true true false d e f g h = refl
-    seven true true true false e f g h = refl
-    seven true true true true false f g h = refl
-    seven true true true true true false g h = refl
-    seven true true true true true true g h = refl
+    front : (x a b h : Bool) → (x && (a && (b && h))) ≡ (a && (b && (x && h)))
+    front true a b h = refl
+    front false false b h = refl
+    front false true false h = refl
+    front false true true h = refl
+
+    sort : (a b c d e f g h : Bool) → ((f && (g && (c && (d && e)))) && (a && (b && h))) ≡ (a && (b && (c && (d && (e && (f && (g && h)))))))
+    sort a b c d e f g h =
+        let y = c && (d && e) in
+        let z = f && (g && h) in
+        front (f && (g && y)) a b h
+        ∙ ap (λ (x : Bool). a && (b && x)) (and-assoc f (g && y) h ∙ ap (λ (x : Bool). f && x) (and-assoc g y h) ∙ sym (front y f g h) ∙ and-assoc c (d && e) z ∙ ap (λ (x : Bool). c && x) (and-assoc d e z))
 
 bad-from : (k : ℕ) (ix used : List ℕ) (rs : List Row) → Marks ix used → badFrom k ix rs ≡ firstBadFrom k used rs
 unfolding badFrom firstBadFrom

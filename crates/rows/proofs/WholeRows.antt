@@ -4,18 +4,19 @@ use Prim.Native.Nat.{ℕ, zero, suc, _+_, _*_, _/_, _≤_, _<_}
 use native.Mathlib.Omega.{arith}
 use mathlib.Core.Path.{_≡_, refl, ap, sym, _∙_}
 use mathlib.Core.List.{List, [], _∷_, _++_}
-use mathlib.Core.Bool.{Bool, true, false, _&&_, _||_, not, false≢true}
+use mathlib.Core.Bool.{Bool, true, false, _&&_, _||_, not, and-true, false≢true}
 use mathlib.Core.Option.{none, some}
-use borrow.Author.Tests.{lt-ltb, le-ltb, ltb-true, ltb-false, leb-true}
+use borrow.Author.Tests.{lt-ltb, le-ltb, ltb-true, ltb-false, leb-true, le-leb, lt-leb}
 use lib.ListN.{length, getD, drop, length-take}
 use lib.Seq.{getD-drop, getD-take}
 use lib.Dec.{ltb, leb, eqb, lit<}
 use Rattle.definitions.specs.Basic.{pick}
-use Rattle.definitions.specs.Rows.{Row, rowOf, rowsOf, rowAt, ieis, firstIei, allGood, fresh, goodRow, mostPlaces, firstBadFrom, firstBad, noRow}
+use Rattle.definitions.specs.Rows.{Row, rowOf, rowsOf, rowAt, ieis, firstIei, goodIei, allGood, fresh, goodRow, mostPlaces, firstBadFrom, firstBad, noRow}
 use Rattle.definitions.proofs.RowLaws.{both}
-use Rattle.definitions.proofs.TableLaws.{past, row-at, iei-at, count-is, row-count}
-use Rattle.rows.specs.Marks.{inRange}
-use Rattle.rows.specs.Numbers.{numbersOf, noNumbers, numbersAt, rowSaid, Whole}
+use Rattle.definitions.proofs.TableLaws.{past, row-at, iei-at, iei-count, count-is, row-count}
+use Rattle.rows.specs.Marks.{free, enter, enterAll, enters, markOf, enterRow, inRange, ieisPass, passes}
+use Rattle.rows.specs.Numbers.{numbersOf, noNumbers, numbersAt, Whole}
+use Rattle.rows.specs.declared.columns.Numbers.{Numbers}
 
 -- a good row lists an IEI and has a kind
 record Good (r : Row) : Type 0 where
@@ -119,28 +120,84 @@ module _ (table : List ℕ) (passes : firstBad (rowsOf table) ≡ none) where
 
 -- ---- of any table
 
--- the ranges of a row are those of its numbers taken at once: a row that is not whole has no kind, and fails either way
-kindless : (r : Row) → r .kinds ≡ 0 → inRange r ≡ false
-unfolding inRange
-kindless r e = rw e (by (leb 1 (r .count)) (leb (r .count) 4) (leb (r .code) 3) (not (eqb (r .code) 1) || leb (r .size) 255) (leb (r .least) 65538))
-  where
-    by : (a b c d f : Bool) → (a && (b && (c && (d && (f && false))))) ≡ false
-    by false b c d f = refl
-    by true false c d f = refl
-    by true true false d f = refl
-    by true true true false f = refl
-    by true true true true false = refl
-    by true true true true true = refl
+single : (l : List ℕ) → length l ≡ 1 → l ≡ getD l 0 0 ∷ []
+single [] e = absurd (omega arith)
+single (x ∷ []) e = refl
+single (x ∷ y ∷ l) e = absurd (omega arith)
 
-pub range-by : (table : List ℕ) (k : ℕ) → inRange (rowSaid (numbersAt table k)) ≡ inRange (rowAt (rowsOf table) k)
-unfolding numbersAt inRange rowOf
-range-by table k = by (ltb k (length table / 9)) refl
-  where
-    by : (b : Bool) → ltb k (length table / 9) ≡ b → inRange (rowSaid (pick b (numbersOf (drop (9 * k) table)) noNumbers)) ≡ inRange (rowAt (rowsOf table) k)
-    by true e = rw (row-at table k)
-    by false e =
-        let h = ltb-false k (length table / 9) e in
-        sym (kindless (rowAt (rowsOf table) k) (ap (λ (r : Row). r .kinds) (row-at table k) ∙ past (9 * k) table 8 (omega arith)))
+-- the check of a row by its numbers taken at once
+module _ (table ix : List ℕ) (k : ℕ) (n : Numbers) (e : n ≡ numbersAt table k) where
+  abbrev row : Row
+  row = rowAt (rowsOf table) k
+
+  -- a row that is not whole has no kind, and is out of range either way
+  range-by : inRange (n .code) (n .size) (n .least) (n .kinds) ≡ inRange (row .code) (row .size) (row .least) (row .kinds)
+  unfolding numbersAt inRange rowOf
+  range-by = rw e (by (ltb k (length table / 9)) refl)
+    where
+      by : (b : Bool) → ltb k (length table / 9) ≡ b → let m = pick b (numbersOf (drop (9 * k) table)) noNumbers in inRange (m .code) (m .size) (m .least) (m .kinds) ≡ inRange (row .code) (row .size) (row .least) (row .kinds)
+      by true f = rw (row-at table k)
+      by false f =
+          let h = ltb-false k (length table / 9) f in
+          let z : row .kinds ≡ 0 = ap (λ (r : Row). r .kinds) (row-at table k) ∙ past (9 * k) table 8 (omega arith) in
+          rw z
+
+  pub out-of-range : inRange (n .code) (n .size) (n .least) (n .kinds) ≡ false → passes k row ix ≡ false
+  unfolding passes
+  out-of-range p = rw (sym range-by ∙ p)
+
+  module _ (p : inRange (n .code) (n .size) (n .least) (n .kinds) ≡ true) where
+    here : k < length table / 9
+    unfolding numbersAt inRange
+    here = by (ltb k (length table / 9)) refl (rw e at p)
+      where
+        by : (b : Bool) → ltb k (length table / 9) ≡ b → (let m = pick b (numbersOf (drop (9 * k) table)) noNumbers in inRange (m .code) (m .size) (m .least) (m .kinds) ≡ true) → k < length table / 9
+        by true f q = ltb-true k (length table / 9) f
+        by false f q = absurd (false≢true q)
+
+    said : n ≡ numbersOf (drop (9 * k) table)
+    unfolding numbersAt
+    said = e ∙ rw (lt-ltb k (length table / 9) here)
+
+    its-count : row .count ≡ n .count
+    unfolding rowOf
+    its-count = rw (row-at table k, said)
+
+    its-code : row .code ≡ n .code
+    unfolding rowOf
+    its-code = rw (row-at table k, said)
+
+    its-ieis : passes k row ix ≡ ieisPass k row ix
+    unfolding passes
+    its-ieis = rw (sym range-by ∙ p)
+
+    pub no-iei : n .count < 1 → passes k row ix ≡ false
+    unfolding ieisPass
+    no-iei h = its-ieis ∙ rw (its-count, lt-leb 1 (n .count) h)
+
+    pub five-ieis : 4 < n .count → passes k row ix ≡ false
+    unfolding ieisPass
+    five-ieis h = its-ieis ∙ rw (its-count, le-leb 1 (n .count) (omega arith), lt-leb (n .count) 4 h)
+
+    pub few-ieis : 1 ≤ n .count → n .count ≤ 4 → passes k row ix ≡ enters (eqb (row .code) 0) (markOf k) (ieis row) ix
+    unfolding ieisPass
+    few-ieis l h = its-ieis ∙ rw (its-count, le-leb 1 (n .count) l, le-leb (n .count) 4 h)
+
+    -- one IEI
+    module _ (o : n .count ≡ 1) where
+      alone : ieis row ≡ n .first ∷ []
+      alone =
+          let z = count-is table k in
+          single (ieis row) (omega (arith, iei-count table k, here, its-count))
+          ∙ ap (λ (x : ℕ). x ∷ []) (iei-at table k 0 (omega (arith, its-count)) (lit< tt) ∙ sym (getD-drop (9 * k) table 1 0) ∙ ap (λ (m : Numbers). m .first) (sym said))
+
+      pub one-passes : passes k row ix ≡ (goodIei (eqb (n .code) 0) (n .first) && free ix (n .first))
+      unfolding ieisPass enters
+      one-passes = its-ieis ∙ rw (alone, its-count, o, its-code) (and-true _)
+
+      pub one-entered : enterRow k row ix ≡ enter (markOf k) (n .first) ix
+      unfolding enterAll
+      one-entered = rw alone
 
 -- an IEI that a row lists is one of its four numbers
 pub slot-listed : (r : Row) (j : ℕ) → j < length (ieis r) → getD (r .slots) j 0 ≡ getD (ieis r) j 0

@@ -8,9 +8,11 @@ use crate::columns::numbers_at;
 use crate::columns::places;
 use crate::marks::NO_PLACE;
 use crate::marks::both;
+use crate::marks::enter_good;
 use crate::marks::enter_row;
+use crate::marks::mark_of;
 ghost use mathlib.Core.Path.{_≡_};
-ghost use mathlib.Core.Bool.{_&&_, _||_, not};
+ghost use mathlib.Core.Bool.{true, _&&_, _||_, not};
 ghost use mathlib.Core.Option.{none};
 ghost use Prim.Native.Nat.{_+_, _<_, suc};
 ghost use lib.ListN.{length, drop};
@@ -43,42 +45,47 @@ fn size_fits(code: u32, size: usize) -> bool
     size <= 255
 }
 
-// The ranges of a row's numbers.
-fn in_range(table: &[u32], place: usize) -> bool
-    ensures { λ r. ⌜ r ≡ inRange (rowAt (rowsOf (now (table .entry))) place) ⌝ }
+// The ranges of a row's numbers behind its IEIs.
+fn in_range(code: u32, size: usize, least: usize, kinds: u32) -> bool
+    ensures { λ r. ⌜ r ≡ inRange code size least kinds ⌝ }
+{
+    if kinds < 1 {
+        return false;
+    }
+    if kinds > 255 {
+        return false;
+    }
+    if code > 3 {
+        return false;
+    }
+    if !size_fits(code, size) {
+        return false;
+    }
+    least <= 65_538
+}
+
+// A row, its IEIs entered where it passes. Most rows list one, which needs no walk; an unfinished row has no set of kinds.
+fn row_passes(table: &[u32], place: usize, index: &mut [u8; 256]) -> bool
+    ensures { λ r. ⌜ (r ≡ passes place (rowAt (rowsOf (now (table .entry))) place) (now (index .entry))) × (r ≡ true → now (index .exit) ≡ enterRow place (rowAt (rowsOf (now (table .entry))) place) (now (index .entry))) ⌝ }
 {
     let row = numbers_at(table, place);
+    if !in_range(row.code, row.size, row.least, row.kinds) {
+        return false;
+    }
+    if row.count == 1 {
+        return enter_good(index, row.code == 0, row.first, mark_of(place));
+    }
     if row.count < 1 {
         return false;
     }
     if row.count > 4 {
         return false;
     }
-    if row.code > 3 {
-        return false;
-    }
-    if !size_fits(row.code, row.size) {
-        return false;
-    }
-    if row.least > 65_538 {
-        return false;
-    }
-    if row.kinds < 1 {
-        return false;
-    }
-    row.kinds <= 255
-}
-
-// A row, with its IEIs entered.
-fn row_passes(table: &[u32], place: usize, index: &mut [u8]) -> bool
-    ensures { λ r. ⌜ (r ≡ passes place (rowAt (rowsOf (now (table .entry))) place) (now (index .entry))) × (now (index .exit) ≡ enterRow place (rowAt (rowsOf (now (table .entry))) place) (now (index .entry))) ⌝ }
-{
-    let entered = enter_row(table, place, index);
-    both(in_range(table, place), entered)
+    enter_row(table, place, index)
 }
 
 // The rows one after the other, up to the first bad one; of a table that passes, all IEIs are entered.
-fn check_rows(table: &[u32], index: &mut [u8]) -> Checked
+fn check_rows(table: &[u32], index: &mut [u8; 256]) -> Checked
     ensures { λ r. ⌜ (checkedAs r ≡ badFrom 0 (now (index .entry)) (rowsOf (now (table .entry)))) × (badFrom 0 (now (index .entry)) (rowsOf (now (table .entry))) ≡ none → now (index .exit) ≡ indexed 0 (now (index .entry)) (rowsOf (now (table .entry)))) ⌝ }
 {
     let n = places(table);
@@ -103,17 +110,19 @@ pub fn check_table(table: &[u32]) -> Checked
     check_rows(table, &mut entries)
 }
 
-// The same, and the index of a table that passes; the entries are as they were where the table fails.
+// The same, and the index of a table that passes; the entries are as they were where the table fails. IEIs are entered in the lent
+// array itself: for a caller who reads it only of a table that passes, the compiled code copies nothing.
 pub fn check_and_index(table: &[u32], entries: &mut [u8; 256]) -> Checked
     ensures { λ r. ⌜ (checkedAs r ≡ firstBad (rowsOf (now (table .entry)))) × (now (entries .exit) ≡ pick (isNone (firstBad (rowsOf (now (table .entry))))) (index (rowsOf (now (table .entry)))) (now (entries .entry))) ⌝ }
 {
-    let mut found = [NO_PLACE; 256];
-    match check_rows(table, &mut found) {
-        Checked::Passes => {
-            *entries = found;
-            Checked::Passes
+    let lent = *entries;
+    *entries = [NO_PLACE; 256];
+    match check_rows(table, entries) {
+        Checked::Passes => Checked::Passes,
+        Checked::BadRow(k) => {
+            *entries = lent;
+            Checked::BadRow(k)
         }
-        Checked::BadRow(k) => Checked::BadRow(k),
     }
 }
 

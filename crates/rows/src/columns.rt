@@ -124,9 +124,14 @@ pub fn form_of(code: u32, size: usize) -> Form
     }
 }
 
+// Of a row that the table has whole, by one test for both numbers.
 pub fn form_at(table: &[u32], place: usize) -> Form
     ensures { λ r. ⌜ formAs r ≡ form (rowAt (rowsOf (now (table .entry))) place) ⌝ }
 {
+    if place < table.len() / 9 {
+        let row = numbers_at(table, place);
+        return form_of(row.code, row.size);
+    }
     form_of(code_at(table, place), size_at(table, place))
 }
 

@@ -3,7 +3,7 @@ use crate::columns::code_at;
 use crate::columns::iei_count;
 use crate::columns::slot_at;
 ghost use mathlib.Core.Path.{_≡_};
-ghost use mathlib.Core.Bool.{_&&_};
+ghost use mathlib.Core.Bool.{true, _&&_};
 ghost use lib.Dec.{eqb};
 ghost use Rattle.definitions.specs.Rows.{rowsOf, rowAt, ieis, goodIei};
 ghost use Rattle.rows.specs.Marks.{free, enter, enters, enterRow, markOf};
@@ -56,8 +56,18 @@ fn enter_iei(index: &mut [u8], half: bool, iei: u32, mark: u8) -> bool
     both(good_iei(half, iei), was)
 }
 
+// The same, where one that the row may not list need not be entered.
+pub fn enter_good(index: &mut [u8; 256], half: bool, iei: u32, mark: u8) -> bool
+    ensures { λ r. ⌜ (r ≡ (goodIei half iei && free (now (index .entry)) iei)) × (r ≡ true → now (index .exit) ≡ enter mark iei (now (index .entry))) ⌝ }
+{
+    if !good_iei(half, iei) {
+        return false;
+    }
+    enter_free(index, iei, mark)
+}
+
 // The mark of a place.
-fn mark_of(place: usize) -> u8
+pub fn mark_of(place: usize) -> u8
     ensures { λ r. ⌜ r ≡ markOf place ⌝ }
 {
     if place < 255 { place as u8 } else { NO_PLACE }

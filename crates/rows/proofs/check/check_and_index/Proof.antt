@@ -1,5 +1,5 @@
--- `check_and_index` checks the rows with an array of its own, and hands it out where the table passes.
--- Then its entries are the index; else the lent ones are as they were.
+-- `check_and_index` checks the rows in the lent entries, with none entered at first.
+-- Of a table that passes they are its index; else they are put back as they were.
 use mathlib.Core.Path.{ap, sym, _∙_}
 use Prim.Native.Nat.{ℕ}
 use mathlib.Core.Option.{Option}
@@ -10,9 +10,6 @@ use Rattle.rows.proofs.Marking.{bad-rows, indexed-rows}
 use borrow.Author.Needs.{needs}
 use Rattle.rows.proofs.check.check_and_index.Statement.{statement}
 use Rattle.rows.proofs.check.check_and_index.Tie as tie
-
-slice-aggregate-check-rows : tie.Need-slice-aggregate-check-rows
-slice-aggregate-check-rows c = search needs
 
 check-rows-requires : tie.Need-check-rows-requires
 check-rows-requires c κs = search needs
@@ -26,28 +23,21 @@ enum-known-k c = search needs
 returns : tie.Need-returns
 unfolding isNone
 returns c =
-    let a = c .before .before .before .before .before .before .args in
+    let a = c .before .before .before .before .before .before .before .args in
     let rs = rowsOf (a .table .now) in
-    let e = ap checkedAs (sym (c .enum-told .given .1)) ∙ c .before .before .before .check-rows .ensures .0 in
+    let e = ap checkedAs (sym (c .enum-told .given .1)) ∙ c .before .before .check-rows .ensures .0 in
     let f = e ∙ bad-rows rs in
-    (f, c .before .before .before .check-rows .ensures .1 (sym e) ∙ indexed-rows rs ∙ ap (λ (o : Option ℕ). pick (isNone o) (index rs) (a .entries .now)) f)
+    (f, c .before .before .check-rows .ensures .1 (sym e) ∙ indexed-rows rs ∙ ap (λ (o : Option ℕ). pick (isNone o) (index rs) (a .entries .now)) f)
 
 returns-2 : tie.Need-returns-2
 unfolding isNone
 returns-2 c =
-    let a = c .before .before .before .before .before .before .before .args in
+    let a = c .before .before .before .before .before .before .before .before .args in
     let rs = rowsOf (a .table .now) in
-    let e = ap checkedAs (sym (c .before .k .given .1)) ∙ c .before .before .before .before .check-rows .ensures .0 in
+    let e = ap checkedAs (sym (c .before .k .given .1)) ∙ c .before .before .before .check-rows .ensures .0 in
     let f = e ∙ bad-rows rs in
     (f, ap (λ (o : Option ℕ). pick (isNone o) (index rs) (a .entries .now)) f)
 
 pub check-and-index-spec : {M : Type 1} → statement M
 check-and-index-spec =
-    tie.close
-    (tie.spec
-    slice-aggregate-check-rows
-    check-rows-requires
-    enum-told
-    enum-known-k
-    returns
-    returns-2)
+    tie.close (tie.spec check-rows-requires enum-told enum-known-k returns returns-2)

@@ -23,20 +23,14 @@ places-requires c κs = search needs
 loop-holds : tie.Need-loop-holds Inv-loop μ-loop
 loop-holds c = checking _ _
 
-same-length : tie.Need-same-length Inv-loop μ-loop
-same-length c = c .before .before .loop .inv .filling .size
-
 returns : tie.Need-returns Inv-loop μ-loop
 returns c = too-many _ _ _ _ (c .before .before .loop .inv) (omega arith) (c .if1 .taken)
 
 row-passes-requires : tie.Need-row-passes-requires Inv-loop μ-loop
 row-passes-requires c κs = search needs
 
-same-length-2 : tie.Need-same-length-2 Inv-loop μ-loop
-same-length-2 c = c .before .before .before .row-passes .kept .1 .1 .0 ∙ c .before .before .before .before .before .before .before .loop .inv .filling .size
-
 returns-2 : tie.Need-returns-2 Inv-loop μ-loop
-returns-2 c = bad-row _ _ _ _ (c .before .before .before .before .before .before .before .loop .inv) (omega arith) (omega arith) (sym (c .before .before .before .row-passes .ensures .0) ∙ not-true _ (c .if2 .taken)) _
+returns-2 c = bad-row _ _ _ _ (c .before .before .before .before .before .loop .inv) (omega arith) (omega arith) (sym (c .before .row-passes .ensures .0) ∙ not-true _ (c .if2 .taken)) _
 
 add-k : tie.Need-add-k Inv-loop μ-loop
 add-k c = omega arith
@@ -45,10 +39,7 @@ loop-less : tie.Need-loop-less Inv-loop μ-loop
 loop-less c = omega arith
 
 loop-again : tie.Need-loop-again Inv-loop μ-loop
-loop-again c = checked-one _ _ _ _ (c .before .before .before .before .before .before .before .loop .inv) (omega arith) (omega arith) (sym (c .before .before .before .row-passes .ensures .0) ∙ not-false _ (c .if2 .left)) (c .before .before .before .row-passes .ensures .1)
-
-same-length-3 : tie.Need-same-length-3 Inv-loop μ-loop
-same-length-3 c = c .before .loop .inv .filling .size
+loop-again c = checked-one _ _ _ _ (c .before .before .before .before .before .loop .inv) (omega arith) (omega arith) (sym (c .before .row-passes .ensures .0) ∙ not-false _ (c .if2 .left)) (c .before .row-passes .ensures .1 (not-false _ (c .if2 .left)))
 
 returns-3 : tie.Need-returns-3 Inv-loop μ-loop
 returns-3 c = checked-all _ _ _ _ (c .before .loop .inv) (omega arith)
@@ -61,13 +52,10 @@ check-rows-spec =
     μ-loop
     places-requires
     loop-holds
-    same-length
     returns
     row-passes-requires
-    same-length-2
     returns-2
     add-k
     loop-less
     loop-again
-    same-length-3
     returns-3)

@@ -6,14 +6,11 @@ use borrow.Author.Needs.{needs}
 use Rattle.rows.proofs.check.check_table.Statement.{statement}
 use Rattle.rows.proofs.check.check_table.Tie as tie
 
-slice-aggregate-check-rows : tie.Need-slice-aggregate-check-rows
-slice-aggregate-check-rows c = search needs
-
 check-rows-requires : tie.Need-check-rows-requires
 check-rows-requires c κs = search needs
 
 returns : tie.Need-returns
-returns c = c .before .check-rows .ensures .0 ∙ bad-rows _
+returns c = c .check-rows .ensures .0 ∙ bad-rows _
 
 pub check-table-spec : {M : Type 1} → statement M
-check-table-spec = tie.close (tie.spec slice-aggregate-check-rows check-rows-requires returns)
+check-table-spec = tie.close (tie.spec check-rows-requires returns)
