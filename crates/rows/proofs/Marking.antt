@@ -145,8 +145,9 @@ row-passes k r ix used h m =
     sort a b c d e f g h =
         let y = c && (d && e) in
         let z = f && (g && h) in
-        front (f && (g && y)) a b h
-        ∙ ap (λ (x : Bool). a && (b && x)) (and-assoc f (g && y) h ∙ ap (λ (x : Bool). f && x) (and-assoc g y h) ∙ sym (front y f g h) ∙ and-assoc c (d && e) z ∙ ap (λ (x : Bool). c && x) (and-assoc d e z))
+        let l = and-assoc f (g && y) h ∙ ap (λ (x : Bool). f && x) (and-assoc g y h) in
+        let r = and-assoc c (d && e) z ∙ ap (λ (x : Bool). c && x) (and-assoc d e z) in
+        front (f && (g && y)) a b h ∙ ap (λ (x : Bool). a && (b && x)) (l ∙ sym (front y f g h) ∙ r)
 
 bad-from : (k : ℕ) (ix used : List ℕ) (rs : List Row) → Marks ix used → badFrom k ix rs ≡ firstBadFrom k used rs
 unfolding badFrom firstBadFrom

@@ -125,33 +125,36 @@ single [] e = absurd (omega arith)
 single (x ∷ []) e = refl
 single (x ∷ y ∷ l) e = absurd (omega arith)
 
+abbrev pub rangeOf : Numbers → Bool
+rangeOf n = inRange (n .code) (n .size) (n .least) (n .kinds)
+
 -- the check of a row by its numbers taken at once
 module _ (table ix : List ℕ) (k : ℕ) (n : Numbers) (e : n ≡ numbersAt table k) where
   abbrev row : Row
   row = rowAt (rowsOf table) k
 
   -- a row that is not whole has no kind, and is out of range either way
-  range-by : inRange (n .code) (n .size) (n .least) (n .kinds) ≡ inRange (row .code) (row .size) (row .least) (row .kinds)
+  range-by : rangeOf n ≡ inRange (row .code) (row .size) (row .least) (row .kinds)
   unfolding numbersAt inRange rowOf
   range-by = rw e (by (ltb k (length table / 9)) refl)
     where
-      by : (b : Bool) → ltb k (length table / 9) ≡ b → let m = pick b (numbersOf (drop (9 * k) table)) noNumbers in inRange (m .code) (m .size) (m .least) (m .kinds) ≡ inRange (row .code) (row .size) (row .least) (row .kinds)
+      by : (b : Bool) → ltb k (length table / 9) ≡ b → rangeOf (pick b (numbersOf (drop (9 * k) table)) noNumbers) ≡ inRange (row .code) (row .size) (row .least) (row .kinds)
       by true f = rw (row-at table k)
       by false f =
           let h = ltb-false k (length table / 9) f in
           let z : row .kinds ≡ 0 = ap (λ (r : Row). r .kinds) (row-at table k) ∙ past (9 * k) table 8 (omega arith) in
           rw z
 
-  pub out-of-range : inRange (n .code) (n .size) (n .least) (n .kinds) ≡ false → passes k row ix ≡ false
+  pub out-of-range : rangeOf n ≡ false → passes k row ix ≡ false
   unfolding passes
   out-of-range p = rw (sym range-by ∙ p)
 
-  module _ (p : inRange (n .code) (n .size) (n .least) (n .kinds) ≡ true) where
+  module _ (p : rangeOf n ≡ true) where
     here : k < length table / 9
     unfolding numbersAt inRange
     here = by (ltb k (length table / 9)) refl (rw e at p)
       where
-        by : (b : Bool) → ltb k (length table / 9) ≡ b → (let m = pick b (numbersOf (drop (9 * k) table)) noNumbers in inRange (m .code) (m .size) (m .least) (m .kinds) ≡ true) → k < length table / 9
+        by : (b : Bool) → ltb k (length table / 9) ≡ b → rangeOf (pick b (numbersOf (drop (9 * k) table)) noNumbers) ≡ true → k < length table / 9
         by true f q = ltb-true k (length table / 9) f
         by false f q = absurd (false≢true q)
 
@@ -188,8 +191,8 @@ module _ (table ix : List ℕ) (k : ℕ) (n : Numbers) (e : n ≡ numbersAt tabl
       alone : ieis row ≡ n .first ∷ []
       alone =
           let z = count-is table k in
-          single (ieis row) (omega (arith, iei-count table k, here, its-count))
-          ∙ ap (λ (x : ℕ). x ∷ []) (iei-at table k 0 (omega (arith, its-count)) (lit< tt) ∙ sym (getD-drop (9 * k) table 1 0) ∙ ap (λ (m : Numbers). m .first) (sym said))
+          let f = iei-at table k 0 (omega (arith, its-count)) (lit< tt) ∙ sym (getD-drop (9 * k) table 1 0) in
+          single (ieis row) (omega (arith, iei-count table k, here, its-count)) ∙ ap (λ (x : ℕ). x ∷ []) (f ∙ ap (λ (m : Numbers). m .first) (sym said))
 
       pub one-passes : passes k row ix ≡ (goodIei (eqb (n .code) 0) (n .first) && free ix (n .first))
       unfolding ieisPass enters

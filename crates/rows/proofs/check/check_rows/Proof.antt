@@ -39,7 +39,10 @@ loop-less : tie.Need-loop-less Inv-loop μ-loop
 loop-less c = omega arith
 
 loop-again : tie.Need-loop-again Inv-loop μ-loop
-loop-again c = checked-one _ _ _ _ (c .before .before .before .before .before .loop .inv) (omega arith) (omega arith) (sym (c .before .row-passes .ensures .0) ∙ not-false _ (c .if2 .left)) (c .before .row-passes .ensures .1 (not-false _ (c .if2 .left)))
+loop-again c =
+    let e = c .before .row-passes .ensures in
+    let p = not-false _ (c .if2 .left) in
+    checked-one _ _ _ _ (c .before .before .before .before .before .loop .inv) (omega arith) (omega arith) (sym (e .0) ∙ p) (e .1 p)
 
 returns-3 : tie.Need-returns-3 Inv-loop μ-loop
 returns-3 c = checked-all _ _ _ _ (c .before .loop .inv) (omega arith)

@@ -5,8 +5,8 @@ use native.Mathlib.Omega.{arith}
 use mathlib.Core.Path.{_≡_, ap, sym, _∙_}
 use mathlib.Core.Bool.{true, false≢true}
 use borrow.Author.Tests.{not-true, not-false}
-use Rattle.rows.specs.Marks.{enter, inRange}
-use Rattle.rows.proofs.WholeRows.{out-of-range, no-iei, five-ieis, few-ieis, one-passes, one-entered}
+use Rattle.rows.specs.Marks.{enter}
+use Rattle.rows.proofs.WholeRows.{rangeOf, out-of-range, no-iei, five-ieis, few-ieis, one-passes, one-entered}
 use borrow.Author.Needs.{needs}
 use Rattle.rows.proofs.check.row_passes.Statement.{statement}
 use Rattle.rows.proofs.check.row_passes.Tie as tie
@@ -18,9 +18,11 @@ in-range-requires : tie.Need-in-range-requires
 in-range-requires c κs = search needs
 
 returns : tie.Need-returns
-returns c = (sym (out-of-range _ _ _ _ (c .before .before .numbers-at .ensures) (sym (c .before .in-range .ensures) ∙ not-true _ (c .if1 .taken))), λ q. absurd (false≢true q))
+returns c =
+    let p = sym (c .before .in-range .ensures) ∙ not-true _ (c .if1 .taken) in
+    (sym (out-of-range _ _ _ _ (c .before .before .numbers-at .ensures) p), λ q. absurd (false≢true q))
 
-ranged : (c : tie.Else1) → let n = c .before .before .numbers-at .result in inRange (n .code) (n .size) (n .least) (n .kinds) ≡ true
+ranged : (c : tie.Else1) → rangeOf (c .before .before .numbers-at .result) ≡ true
 ranged c = sym (c .before .in-range .ensures) ∙ not-false _ (c .if1 .left)
 
 mark-of-requires : tie.Need-mark-of-requires
@@ -33,9 +35,11 @@ returns-2 : tie.Need-returns-2
 returns-2 c =
     let d = c .before .before .before .before .before .before in
     let n = d .before .before .numbers-at in
-    let o = c .before .before .before .before .if2 .taken in (
+    let ix = d .before .before .before .before .args .index .now in
+    let o = c .before .before .before .before .if2 .taken in
+    let m = ap (λ (m : ℕ). enter m (n .result .first) ix) (c .before .mark-of .ensures) in (
       c .enter-good .ensures .0 ∙ sym (one-passes _ _ _ _ (n .ensures) (ranged d) o),
-      λ q. c .enter-good .ensures .1 q ∙ ap (λ (m : ℕ). enter m (n .result .first) (d .before .before .before .before .args .index .now)) (c .before .mark-of .ensures) ∙ sym (one-entered _ _ _ _ (n .ensures) (ranged d) o),
+      λ q. c .enter-good .ensures .1 q ∙ m ∙ sym (one-entered _ _ _ _ (n .ensures) (ranged d) o),
     )
 
 returns-3 : tie.Need-returns-3
@@ -54,7 +58,8 @@ enter-row-requires c κs = search needs
 returns-5 : tie.Need-returns-5
 returns-5 c =
     let d = c .before .before .before .before .before .before .before .before in
-    (c .enter-row .ensures .0 ∙ sym (few-ieis _ _ _ _ (d .before .before .numbers-at .ensures) (ranged d) (omega arith) (c .before .before .if4 .left)), λ q. c .enter-row .ensures .1)
+    let f = few-ieis _ _ _ _ (d .before .before .numbers-at .ensures) (ranged d) (omega arith) (c .before .before .if4 .left) in
+    (c .enter-row .ensures .0 ∙ sym f, λ q. c .enter-row .ensures .1)
 
 pub row-passes-spec : {M : Type 1} → statement M
 row-passes-spec =

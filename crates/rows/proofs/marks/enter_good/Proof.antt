@@ -17,7 +17,9 @@ enter-free-requires : tie.Need-enter-free-requires
 enter-free-requires c κs = search needs
 
 returns-2 : tie.Need-returns-2
-returns-2 c = (rw (sym (c .before .before .before .good-iei .ensures) ∙ not-false _ (c .before .before .if1 .left)) (c .enter-free .ensures .0), λ q. c .enter-free .ensures .1)
+returns-2 c =
+    let g = sym (c .before .before .before .good-iei .ensures) ∙ not-false _ (c .before .before .if1 .left) in
+    (rw g (c .enter-free .ensures .0), λ q. c .enter-free .ensures .1)
 
 pub enter-good-spec : {M : Type 1} → statement M
 enter-good-spec = tie.close (tie.spec good-iei-requires returns enter-free-requires returns-2)
