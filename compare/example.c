@@ -211,8 +211,8 @@ int main(void)
             if (!written(&a, part, len, unset, 0))
                 differ = 1;
         } else {
-            printf("  refused %u: %llu, %02llx, %llu\n", (unsigned)number, (unsigned long long)a.values[1],
-                   (unsigned long long)a.values[2], (unsigned long long)a.values[3]);
+            printf("  refused %u: %llu, %02llx, %llu, %llu missing\n", (unsigned)number, (unsigned long long)a.values[1],
+                   (unsigned long long)a.values[2], (unsigned long long)a.values[3], (unsigned long long)a.values[4]);
         }
         printf("\n");
     }

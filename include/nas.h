@@ -8,7 +8,7 @@
  * counts get an answer.
  *
  * Refusals, with their values:
- *   1   an element is cut short
+ *   1   an element is cut short: the octets missing; of a reading before it the start, first octet and octets to the end
  *   2   no room: where, 1 place rows, 2 kept log, 3 order log, 4 findings
  *   3   too long, no value: a part, received or set octets, or a pushed element over 65,535 octets; a log over 131,070 octets;
  *       set octets or a log so after the setting or push; a used count above its buffer
@@ -41,7 +41,8 @@ extern "C" {
 /* ---- lengths, tables, indexes */
 
 /* The length of an unknown element, from the octets from its first octet on.
- * 0: the length. 1: cut short, no value. */
+ * 0: the length. 1: cut short, and the octets missing: up to the stated length, or, where the length field is itself cut, up to
+ * the end of that field, so a least number; 1 for no octet. */
 uint32_t nas_generic_ie_length(const uint8_t *octets, size_t octets_len, uint8_t tlve_start, uint64_t values[5]);
 
 /* Checks a table of optional elements: at most 128 rows, the last one whole; in each row 1 to 4 IEIs, a form of 0 to 3, of a
@@ -103,7 +104,7 @@ uint32_t nas_order_get(const uint8_t *log, size_t log_len, size_t used, size_t k
  * set-aside element behind its octet count in unsigned LEB128; order gets an entry for each element, or nothing where all are
  * accepted, in table order, under first IEIs.
  * 0: the octets used of the kept log, and of the order log. 4: the first bad row. 3. 2: 1. 1: start of the element, its first
- * octet, octets from there to the end. 2: 2. 2: 3. */
+ * octet, octets from there to the end, octets missing as nas_generic_ie_length counts them. 2: 2. 2: 3. */
 uint32_t nas_read(const uint8_t *part, size_t part_len, const uint32_t *table, size_t table_len, uint8_t tlve_start,
                   uint8_t option, uint32_t *rows, size_t rows_len, uint8_t *kept, size_t kept_len, uint8_t *order,
                   size_t order_len, uint64_t values[5]);
@@ -119,7 +120,7 @@ uint32_t nas_read_by(uint32_t number, const uint8_t *part, size_t part_len, uint
  * 127 (a bit each), highest place met; four zeros are the state at a part's start. Any state gets an answer.
  * 0: length, IEI, place (255 where it has none), and how it came (0 accepted, 1 unknown, 2 malformed, 3 repeated, 4 out of
  * sequence); it starts at the position that the state had. At the end no value, and the state stays. 4: the first bad row.
- * 3. 1: start of the element, its first octet, octets from there to the end. On 1, 3 and 4 the state stays. */
+ * 3. 1: start of the element, its first octet, octets from there to the end, octets missing. On 1, 3 and 4 the state stays. */
 uint32_t nas_next(const uint8_t *part, size_t part_len, const uint32_t *table, size_t table_len, uint8_t tlve_start,
                   uint8_t option, uint64_t state[4], uint64_t values[5]);
 

@@ -13,7 +13,7 @@ use crate::rows::{MANDATORY_WIDTH, START, WIDTH};
 const PLENTY: Room = Room { rows: 3 * 40, kept: 400, order: 400 };
 
 impl Driver {
-    /// The examples, as document 01 prints them: of the Rust, and then of both sides.
+    /// The examples, as the documents print them: of the Rust, and then of both sides.
     pub fn examples(&mut self) {
         let table = self.tables.optional[0].clone();
         for (part, option, order, kept) in examples::READ {
@@ -37,6 +37,12 @@ impl Driver {
             let call = Call::ReadBy { number: 0, part: part.to_vec(), option: 0, room: PLENTY };
             let right = call.on(&self.right);
             self.expect(right.number == 1 && *right.said() == values, &call);
+            self.check(call);
+        }
+        for (octets, missing) in examples::MISSING {
+            let call = Call::Length { octets: octets.to_vec(), tlve_start: 0x78 };
+            let right = call.on(&self.right);
+            self.expect(right.number == 1 && *right.said() == [missing], &call);
             self.check(call);
         }
     }
@@ -71,7 +77,7 @@ impl Driver {
 
     /// All first octets, all start numbers, all short tails; then lengths around each boundary.
     pub fn lengths(&mut self) {
-        let tails: [&[u8]; 14] = [
+        let tails: [&[u8]; 15] = [
             &[],
             &[0],
             &[1],
@@ -81,6 +87,7 @@ impl Driver {
             &[0, 1],
             &[1, 0],
             &[2, 9],
+            &[255, 255],
             &[0, 1, 9],
             &[0, 2, 9],
             &[2, 9, 9],

@@ -18,8 +18,21 @@ pub const READ: [Example; 12] = [
     (&[5, 1, 0xaa], false, &[1], &[3, 5, 1, 0xaa]),
 ];
 
-/// Part, and the three values of refusal 1.
-pub const CUT: [(&[u8], [u64; 3]); 2] = [(&[5, 2, 0xaa], [0, 5, 3]), (&[0x7e, 0], [0, 0x7e, 2])];
+/// Part, and the four values of refusal 1, the last of them document 02's.
+pub const CUT: [(&[u8], [u64; 4]); 2] = [(&[5, 2, 0xaa], [0, 5, 3, 1]), (&[0x7e, 0], [0, 0x7e, 2, 1])];
+
+/// The octets from an unknown element's first octet on, and how many are missing, with the start number 0x78.
+pub const MISSING: [(&[u8], u64); 9] = [
+    (&[], 1),
+    (&[5], 1),
+    (&[5, 2, 0xaa], 1),
+    (&[5, 0xff], 255),
+    (&[0x7e], 2),
+    (&[0x7e, 0], 1),
+    (&[0x7e, 1], 1),
+    (&[0x7e, 0xff, 0xff], 65_535),
+    (&[0x7e, 0, 2, 0xaa], 1),
+];
 
 /// Part, the place that is set, its value, and what is written.
 pub type Edited = (&'static [u8], usize, &'static [u8], &'static [u8]);

@@ -110,6 +110,17 @@ pub fn unknown_length(octets: &[u8], start: u8) -> Option<usize> {
     whole(form, octets)
 }
 
+/// The octets missing of an unknown element that is cut short (document 02, item 2): up to the stated length, or, where the
+/// length field is itself cut, up to the end of that field; 1 for no octet.
+pub fn missing(octets: &[u8], start: u8) -> usize {
+    let Some((&first, rest)) = octets.split_first() else {
+        return 1;
+    };
+    let field = if start <= first { 2 } else { 1 };
+    let stated = rest.get(..field).map(|field| field.iter().fold(0, |stated, &octet| 256 * stated + usize::from(octet)));
+    field + stated.unwrap_or(0) - rest.len()
+}
+
 /// An unknown element that asks to be understood: cut short, it refuses the part.
 fn required(first: u8) -> bool {
     matches!(first, 0..=0x0f | 0x7e | 0x7f)
@@ -157,11 +168,12 @@ pub struct Cut {
     pub start: usize,
     pub first: u8,
     pub octets: usize,
+    pub missing: usize,
 }
 
 impl Cut {
     fn refusal(self) -> Answer {
-        answer(1, &[self.start, usize::from(self.first), self.octets])
+        answer(1, &[self.start, usize::from(self.first), self.octets, self.missing])
     }
 }
 
@@ -211,7 +223,8 @@ impl Model {
         let element = match self.index[usize::from(iei_of(rest[0]))] {
             255 => match unknown_length(rest, start) {
                 None if required(rest[0]) => {
-                    return Some(Err(Cut { start: state.at, first: rest[0], octets: rest.len() }));
+                    let missing = missing(rest, start);
+                    return Some(Err(Cut { start: state.at, first: rest[0], octets: rest.len(), missing }));
                 }
                 length => Element {
                     start: state.at,

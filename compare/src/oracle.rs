@@ -1,7 +1,7 @@
 //! The oracle: the Rust's own functions, with a `known` closure that carries out the rows of document 01.
 
 use crate::common::{self, IeOrder, IeiIndex, IeiTable, IgnoredIeReason, NasError, Placed, Reader, UnknownIes};
-use crate::judge::{Cut, Reading};
+use crate::judge::{self, Cut, Reading};
 use crate::rows::{Form, PLACE, Row, rows_of};
 
 /// A table that passes the check, as the Rust has it. The Rust's tables live as long as the program, so this one does too.
@@ -103,7 +103,10 @@ pub fn read_into(
     let mut left = part;
     common::decode_optional_ies(&mut left, table.ieis, &table.index, start, &mut logs.kept, &mut logs.order, &mut known)
         .map_err(|error| match error {
-            NasError::UnknownIeCutShort { iei, octets } => Cut { start: part.len() - octets, first: iei, octets },
+            NasError::UnknownIeCutShort { iei, octets } => {
+                let at = part.len() - octets;
+                Cut { start: at, first: iei, octets, missing: judge::missing(&part[at..], start) }
+            }
             _ => unreachable!("decode_optional_ies has no other error"),
         })
 }

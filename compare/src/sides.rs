@@ -86,7 +86,8 @@ impl<C: Core> Side for Judged<C> {
     }
 
     fn generic_ie_length(&self, octets: &[u8], tlve_start: u8, values: &mut Values) -> u32 {
-        give(C::length(octets, tlve_start).map_or(answer(1, &[]), |length| answer(0, &[length])), values)
+        let cut = || answer(1, &[judge::missing(octets, tlve_start)]);
+        give(C::length(octets, tlve_start).map_or_else(cut, |length| answer(0, &[length])), values)
     }
 
     fn check_table(&self, table: &[u32], values: &mut Values) -> u32 {

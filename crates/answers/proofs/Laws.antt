@@ -7,17 +7,17 @@ use mathlib.Core.List.{List, [], _∷_}
 use mathlib.Core.Option.{Option, none, some}
 use lib.ListN.{length, set}
 use Rattle.definitions.specs.Basic.{Answer, over}
-use Rattle.length.specs.Answers.{lengthOf}
-use Rattle.answers.specs.Says.{putFrom, put, told, Says, lengthAs}
+use Rattle.length.specs.Answers.{unknownOf}
+use Rattle.answers.specs.Says.{putFrom, put, told, Says, lengthAnswer, lengthAs}
 
 -- equal answers are put alike
 pub said-by : {a b : Answer} {n : ℕ} {x y : List ℕ} → a ≡ b → Says a n x y → Says b n x y
 said-by {x = x} e s = record { numbered = s .numbered ∙ ap (λ (v : Answer). v .number) e; valued = s .valued ∙ ap (λ (v : Answer). put (told v) x) e }
 
 -- a length and its answer
-pub length-back : (o : Option ℕ) → lengthAs (lengthOf o) ≡ o
-length-back none = refl
-length-back (some n) = refl
+pub length-said : (m : ℕ) (o : Option ℕ) → lengthAs (unknownOf m o) ≡ lengthAnswer m o
+length-said m none = refl
+length-said m (some n) = refl
 
 -- ---- the values put
 

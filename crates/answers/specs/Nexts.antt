@@ -28,7 +28,7 @@ verdictNumber (Placed.Ignored IgnoredIeReason.OutOfSequence) = 4
 -- an element by its length, IEI, place or 255, and how it came
 abbrev pub nextAnswer : NextElement → Answer
 nextAnswer (NextElement.Next e s) = answer 0 (e .len ∷ e .iei ∷ e .place ∷ verdictNumber (e .placed) ∷ [])
-nextAnswer (NextElement.Cut a x n) = answer 1 (a ∷ x ∷ n ∷ [])
+nextAnswer (NextElement.Cut a x n m) = answer 1 (a ∷ x ∷ n ∷ m ∷ [])
 nextAnswer NextElement.End = answer 0 []
 nextAnswer NextElement.TooLong = answer 3 []
 nextAnswer (NextElement.BadTable k) = answer 4 (k ∷ [])
@@ -36,7 +36,7 @@ nextAnswer (NextElement.BadTable k) = answer 4 (k ∷ [])
 -- the lent state afterwards: behind the element, else as it was
 abbrev pub stateAfter : NextElement → List ℕ → List ℕ
 stateAfter (NextElement.Next e s) lent = put (stateNumbers s) lent
-stateAfter (NextElement.Cut a x n) lent = lent
+stateAfter (NextElement.Cut a x n m) lent = lent
 stateAfter NextElement.End lent = lent
 stateAfter NextElement.TooLong lent = lent
 stateAfter (NextElement.BadTable k) lent = lent

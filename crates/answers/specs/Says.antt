@@ -10,7 +10,7 @@ use Rattle.definitions.specs.Values.{Edited}
 use Rattle.definitions.specs.Writing.{Wrote}
 use Rattle.definitions.specs.Findings.{Noted}
 use Rattle.definitions.specs.Mandatory.{RowsWrote}
-use Rattle.length.specs.declared.Length.{Length}
+use Rattle.length.specs.declared.UnknownLength.{UnknownLength}
 
 -- values stored one after the other from a place on; every other place is as it was. The five lent places are known by their
 -- number alone, which no contract tells as a length, so this is said by stores; with as many places as values it is `over`
@@ -70,11 +70,11 @@ abbrev pub placeAnswer : Option ℕ → Answer
 placeAnswer none = answer 0 []
 placeAnswer (some place) = answer 0 (place ∷ [])
 
--- the length of an unknown element, or cut short, with no value
-abbrev pub lengthAnswer : Option ℕ → Answer
-lengthAnswer none = answer 1 []
-lengthAnswer (some n) = answer 0 (n ∷ [])
+-- the length of an unknown element, or cut short, with the octets missing
+abbrev pub lengthAnswer : ℕ → Option ℕ → Answer
+lengthAnswer m none = answer 1 (m ∷ [])
+lengthAnswer m (some n) = answer 0 (n ∷ [])
 
-abbrev pub lengthAs : Length → Option ℕ
-lengthAs (Length.Octets n) = some n
-lengthAs Length.CutShort = none
+abbrev pub lengthAs : UnknownLength → Answer
+lengthAs (UnknownLength.Octets n) = answer 0 (n ∷ [])
+lengthAs (UnknownLength.CutShort m) = answer 1 (m ∷ [])

@@ -8,7 +8,7 @@ use findings::Log;
 use kept::Counted;
 use kept::Got;
 use kept::Pushed;
-use length::Length;
+use length::UnknownLength;
 use mandatory::decode::Mandated;
 use mandatory::decode::MandatoryRead;
 use mandatory::notes::Notes;
@@ -38,7 +38,7 @@ ghost use Rattle.rows.specs.Answers.{checkedAs, placeAs};
 ghost use Rattle.writing.specs.Encodes.{whichAs, encodedAs};
 ghost use Rattle.answers.specs.Mandated.{usedNotes, notesPut, briefAs, MandatedSays};
 ghost use Rattle.answers.specs.Nexts.{stateNumbers, verdictNumber, NextSays};
-ghost use Rattle.answers.specs.Says.{put, Says, checkAnswer, placeAnswer, lengthAnswer, lengthAs};
+ghost use Rattle.answers.specs.Says.{put, Says, checkAnswer, placeAnswer, lengthAs};
 
 // A number with no value, and with one to four of them: how many, then each.
 pub fn none(number: u32, values: &mut [u64; 5]) -> u32
@@ -86,12 +86,12 @@ fn four(number: u32, a: u64, b: u64, c: u64, d: u64, values: &mut [u64; 5]) -> u
     number
 }
 
-pub fn length_said(length: Length, values: &mut [u64; 5]) -> u32
-    ensures { λ r. ⌜ Says (lengthAnswer (lengthAs length)) r (now (values .entry)) (now (values .exit)) ⌝ }
+pub fn length_said(length: UnknownLength, values: &mut [u64; 5]) -> u32
+    ensures { λ r. ⌜ Says (lengthAs length) r (now (values .entry)) (now (values .exit)) ⌝ }
 {
     match length {
-        Length::Octets(n) => one(0, n as u64, values),
-        Length::CutShort => none(1, values),
+        UnknownLength::Octets(n) => one(0, n as u64, values),
+        UnknownLength::CutShort(missing) => one(1, missing as u64, values),
     }
 }
 
@@ -193,7 +193,14 @@ pub fn decoded_said(decoded: Decoded, values: &mut [u64; 5]) -> u32
 {
     match decoded {
         Decoded::Done(kept, order) => two(0, kept as u64, order as u64, values),
-        Decoded::CutShort(start, x, left) => three(1, start as u64, x as u64, left as u64, values),
+        Decoded::CutShort(start, x, left, missing) => four(
+            1,
+            start as u64,
+            x as u64,
+            left as u64,
+            missing as u64,
+            values,
+        ),
         Decoded::NoRoom(room) => room_said(room, values),
         Decoded::TooLong => none(3, values),
         Decoded::BadTable(row) => one(4, row as u64, values),
@@ -398,7 +405,14 @@ pub fn next_said(next: NextElement, state: &mut [u64; 4], values: &mut [u64; 5])
                 values,
             )
         }
-        NextElement::Cut(start, x, left) => three(1, start as u64, x as u64, left as u64, values),
+        NextElement::Cut(start, x, left, missing) => four(
+            1,
+            start as u64,
+            x as u64,
+            left as u64,
+            missing as u64,
+            values,
+        ),
         NextElement::End => none(0, values),
         NextElement::TooLong => none(3, values),
         NextElement::BadTable(row) => one(4, row as u64, values),

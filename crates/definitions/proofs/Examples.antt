@@ -9,7 +9,7 @@ use Rattle.definitions.specs.Basic.{Answer, answer, Used, isNone, among,
 use Rattle.definitions.specs.Octets.{run, number, numberAt}
 use Rattle.definitions.specs.Rows.{rowOf, rowsF, rowsOf, ieis, formOf, form, goodIei, allGood, fresh, goodRow, firstBadFrom, firstBad, ieiOf, placeFrom, placeOf, rowAt, firstIei}
 use Rattle.definitions.specs.Tables.{row, tableP, startOf}
-use Rattle.definitions.specs.Length.{header, lengthBy, stated, within, whole, unknownForm, unknownLength, required}
+use Rattle.definitions.specs.Length.{header, lengthBy, stated, within, whole, unknownForm, unknownLength, lacking, missing, required}
 use Rattle.definitions.specs.Elements.{ieiAt, including, meet, takenBy, taken, judged, octetsOf, known, stranger, strangerStep, placeStep, step, before, stepThen, partedF, parted, elementsOf, isAccepted, isAt}
 use Rattle.definitions.specs.Logs.{lebF, leb128, keptEntry, keptOf, continued, countF, allowed, countAt, put, keptThen, keptListF, keptList, orEmpty, placedOf, orderEntry, entriesOf, plainFrom, orderOf, orderListF, orderList}
 use Rattle.definitions.specs.Reading.{Read, Lent, received, placeRow, placeRowsFrom, placeRows, cutOf, readingChecks, readElements, reading}
@@ -42,8 +42,8 @@ starred =
     ∷ example (0x52 ∷ 0x07 ∷ 0x08 ∷ 0xc3 ∷ []) true (answer 0 (2 ∷ 3 ∷ [])) (0x00 ∷ 0x52 ∷ 0x04 ∷ []) (0x01 ∷ 0xc3 ∷ [])
     ∷ example (0xc1 ∷ 0x90 ∷ 0x10 ∷ 0x01 ∷ 0xaa ∷ []) false (answer 0 (2 ∷ 5 ∷ [])) (0x00 ∷ 0xc0 ∷ 0x01 ∷ 0x00 ∷ 0x10 ∷ []) (0x01 ∷ 0x90 ∷ [])
     ∷ example (0x77 ∷ 0x00 ∷ 0x05 ∷ 0xaa ∷ 0xc1 ∷ []) false (answer 0 (6 ∷ 1 ∷ [])) (0x02 ∷ []) (0x05 ∷ 0x77 ∷ 0x00 ∷ 0x05 ∷ 0xaa ∷ 0xc1 ∷ [])
-    ∷ example (0x05 ∷ 0x02 ∷ 0xaa ∷ []) false (answer 1 (0 ∷ 5 ∷ 3 ∷ [])) ([]) ([])
-    ∷ example (0x7e ∷ 0x00 ∷ []) false (answer 1 (0 ∷ 126 ∷ 2 ∷ [])) ([]) ([])
+    ∷ example (0x05 ∷ 0x02 ∷ 0xaa ∷ []) false (answer 1 (0 ∷ 5 ∷ 3 ∷ 1 ∷ [])) ([]) ([])
+    ∷ example (0x7e ∷ 0x00 ∷ []) false (answer 1 (0 ∷ 126 ∷ 2 ∷ 1 ∷ [])) ([]) ([])
     ∷ []
 
 -- beyond document 01: an unknown element of one octet is kept as it came, with its low four bits; the three unstarred ones
@@ -72,12 +72,27 @@ pub leaves : Example → List (List ℕ)
 leaves e = (e .said .number ∷ []) ∷ e .said .values ∷ over (e .order) lentLog ∷ over (e .kept) lentLog ∷ []
 
 pub starred-hold : map read starred ≡ map leaves starred
-unfolding starred read leaves concat refusal over bit receivable among run number numberAt rowOf rowsF rowsOf ieis formOf form goodIei allGood fresh goodRow firstBadFrom firstBad ieiOf placeFrom placeOf rowAt firstIei row tableP header lengthBy stated within whole unknownForm unknownLength required ieiAt including meet takenBy taken judged octetsOf known stranger strangerStep placeStep step before stepThen partedF parted elementsOf isAccepted isAt received placeRow placeRowsFrom placeRows cutOf readingChecks readElements reading lebF leb128 keptEntry keptOf placedOf orderEntry entriesOf plainFrom orderOf
+unfolding starred read leaves concat refusal over bit receivable among run number numberAt rowOf rowsF rowsOf ieis formOf form goodIei allGood fresh goodRow firstBadFrom firstBad ieiOf placeFrom placeOf rowAt firstIei row tableP header lengthBy stated within whole unknownForm unknownLength lacking missing required ieiAt including meet takenBy taken judged octetsOf known stranger strangerStep placeStep step before stepThen partedF parted elementsOf isAccepted isAt received placeRow placeRowsFrom placeRows cutOf readingChecks readElements reading lebF leb128 keptEntry keptOf placedOf orderEntry entriesOf plainFrom orderOf
 starred-hold = refl
 
 pub unstarred-hold : map read unstarred ≡ map leaves unstarred
-unfolding unstarred read leaves concat refusal over bit receivable among run number numberAt rowOf rowsF rowsOf ieis formOf form goodIei allGood fresh goodRow firstBadFrom firstBad ieiOf placeFrom placeOf rowAt firstIei row tableP header lengthBy stated within whole unknownForm unknownLength required ieiAt including meet takenBy taken judged octetsOf known stranger strangerStep placeStep step before stepThen partedF parted elementsOf isAccepted isAt received placeRow placeRowsFrom placeRows cutOf readingChecks readElements reading lebF leb128 keptEntry keptOf placedOf orderEntry entriesOf plainFrom orderOf
+unfolding unstarred read leaves concat refusal over bit receivable among run number numberAt rowOf rowsF rowsOf ieis formOf form goodIei allGood fresh goodRow firstBadFrom firstBad ieiOf placeFrom placeOf rowAt firstIei row tableP header lengthBy stated within whole unknownForm unknownLength lacking missing required ieiAt including meet takenBy taken judged octetsOf known stranger strangerStep placeStep step before stepThen partedF parted elementsOf isAccepted isAt received placeRow placeRowsFrom placeRows cutOf readingChecks readElements reading lebF leb128 keptEntry keptOf placedOf orderEntry entriesOf plainFrom orderOf
 unstarred-hold = refl
+
+-- ---- what is missing
+
+-- the octets from an unknown element's first octet on, and how many are missing, start number 0x78: of no octet; of one length octet;
+-- of two. A length field that is cut gives a least number: 7e 01 lacks 1, and its value 256 octets or more
+unfoldable pub lacks : List (List ℕ)
+lacks =
+    []
+    ∷ (0x05 ∷ []) ∷ (0x05 ∷ 0x02 ∷ 0xaa ∷ []) ∷ (0x05 ∷ 0xff ∷ [])
+    ∷ (0x7e ∷ []) ∷ (0x7e ∷ 0x00 ∷ []) ∷ (0x7e ∷ 0x01 ∷ []) ∷ (0x7e ∷ 0xff ∷ 0xff ∷ []) ∷ (0x7e ∷ 0x00 ∷ 0x02 ∷ 0xaa ∷ [])
+    ∷ []
+
+pub lacks-hold : map (missing 0x78) lacks ≡ 1 ∷ 1 ∷ 1 ∷ 255 ∷ 2 ∷ 1 ∷ 1 ∷ 65535 ∷ 1 ∷ []
+unfolding lacks run number numberAt header lengthBy stated unknownForm lacking missing
+lacks-hold = refl
 
 -- ---- writing
 
@@ -114,7 +129,7 @@ pub writes : Edit → List (List ℕ)
 writes e = (0 ∷ []) ∷ (length (e .written′) ∷ []) ∷ over (e .written′) lentOutput ∷ []
 
 pub edits-hold : map wrote edits ≡ map writes edits
-unfolding edits wrote writes isNone among concat refusal over overAt content tooLong bit receivable run number numberAt rowOf rowsF rowsOf ieis formOf form goodIei allGood fresh goodRow firstBadFrom firstBad ieiOf placeFrom placeOf rowAt firstIei row tableP header lengthBy stated within whole unknownForm unknownLength required ieiAt including meet takenBy taken judged octetsOf known stranger strangerStep placeStep step before stepThen partedF parted elementsOf isAccepted isAt received placeRow placeRowsFrom placeRows cutOf readingChecks readElements reading lebF leb128 keptEntry keptOf continued countF allowed countAt put keptThen keptListF keptList orEmpty placedOf orderEntry entriesOf plainFrom orderOf orderListF orderList valueAt present sourceOf octetsAt goodValue firstFrom badRows fits unfitAt valuesTooLong placeChecks setting encoded elementAt logged addedFrom below notBelow firsts walked written unfit octetsIn octetsFor writingChecks writing
+unfolding edits wrote writes isNone among concat refusal over overAt content tooLong bit receivable run number numberAt rowOf rowsF rowsOf ieis formOf form goodIei allGood fresh goodRow firstBadFrom firstBad ieiOf placeFrom placeOf rowAt firstIei row tableP header lengthBy stated within whole unknownForm unknownLength lacking missing required ieiAt including meet takenBy taken judged octetsOf known stranger strangerStep placeStep step before stepThen partedF parted elementsOf isAccepted isAt received placeRow placeRowsFrom placeRows cutOf readingChecks readElements reading lebF leb128 keptEntry keptOf continued countF allowed countAt put keptThen keptListF keptList orEmpty placedOf orderEntry entriesOf plainFrom orderOf orderListF orderList valueAt present sourceOf octetsAt goodValue firstFrom badRows fits unfitAt valuesTooLong placeChecks setting encoded elementAt logged addedFrom below notBelow firsts walked written unfit octetsIn octetsFor writingChecks writing
 edits-hold = refl
 
 -- the counts 127 and 128
@@ -127,7 +142,7 @@ counts-hold = refl
 -- what nas-list prints for c1 90 10 00 10 01 aa, and for 05 02 aa
 pub listings-hold : map listing ((0xc1 ∷ 0x90 ∷ 0x10 ∷ 0x00 ∷ 0x10 ∷ 0x01 ∷ 0xaa ∷ []) ∷ (0x05 ∷ 0x02 ∷ 0xaa ∷ []) ∷ [])
     ≡ ascii "at len iei verdict\n0 1 c0 accepted\n1 1 90 unknown\n2 2 10 malformed\n4 3 10 repeated\nend 7\n"
-    ∷ ascii "at len iei verdict\ncut at 0 iei 05 octets 3\n"
+    ∷ ascii "at len iei verdict\ncut at 0 iei 05 octets 3 missing 1\n"
     ∷ []
-unfolding concat bit receivable among run number numberAt rowOf rowsF rowsOf ieis formOf form goodIei allGood fresh goodRow firstBadFrom firstBad ieiOf placeFrom placeOf rowAt firstIei row tableP header lengthBy stated within whole unknownForm unknownLength required ieiAt including meet takenBy taken judged octetsOf known stranger strangerStep placeStep step before stepThen partedF parted elementsOf isAccepted isAt ascii decimalF decimal hexDigit hex word heading line lines listed listing
+unfolding concat bit receivable among run number numberAt rowOf rowsF rowsOf ieis formOf form goodIei allGood fresh goodRow firstBadFrom firstBad ieiOf placeFrom placeOf rowAt firstIei row tableP header lengthBy stated within whole unknownForm unknownLength lacking missing required ieiAt including meet takenBy taken judged octetsOf known stranger strangerStep placeStep step before stepThen partedF parted elementsOf isAccepted isAt ascii decimalF decimal hexDigit hex word heading line lines listed listing
 listings-hold = refl

@@ -1,10 +1,10 @@
 -- Laws of an element's length, once over the width of the length field, and of the unknown rule by the first octet.
 -- A field is there or short as its octets are; the whole length is then a comparison.
-use Prim.Native.Nat.{ℕ, zero, suc, _+_, _≤_, _<_}
+use Prim.Native.Nat.{ℕ, zero, suc, _+_, _-_, _≤_, _<_}
 use native.Mathlib.Omega.{arith}
 use mathlib.Core.Path.{_≡_, refl, ap, sym, _∙_}
 use mathlib.Core.List.{List, [], _∷_}
-use mathlib.Core.Option.{Option, none, some, Option·map}
+use mathlib.Core.Option.{Option, none, some, Option·map, Option·getD}
 use mathlib.Core.Bool.{Bool, true, false, _||_}
 use borrow.Author.Tests.{le-leb, lt-leb, eq-eqb, ne-eqb, eqb-false}
 use lib.ListN.{length, getD}
@@ -12,7 +12,7 @@ use lib.Dec.{leb, eqb}
 use Rattle.definitions.specs.Basic.{pick}
 use Rattle.definitions.specs.Octets.{numberAt}
 use Rattle.definitions.specs.Rows.{Form, half, fixed, tlv, tlv-e}
-use Rattle.definitions.specs.Length.{lengthBy, stated, within, whole, unknownForm, unknownLength, required}
+use Rattle.definitions.specs.Length.{header, lengthBy, stated, within, whole, unknownForm, unknownLength, lacking, missing, required}
 
 -- a stated length that the octets have, or not
 module _ (n : ℕ) (s : List ℕ) where
@@ -24,6 +24,14 @@ module _ (n : ℕ) (s : List ℕ) where
   unfolding within
   within-short h = rw (lt-leb n (length s) h)
 
+-- what an element lacks, by the width of its length field; the two forms that have one
+abbrev pub lackingBy : ℕ → List ℕ → ℕ
+lackingBy w s = Option·getD (lengthBy w s) (1 + w) - length s
+
+pub lacking-widths : (s : List ℕ) → (lacking tlv s ≡ lackingBy 1 s) × (lacking tlv-e s ≡ lackingBy 2 s)
+unfolding lacking stated header
+lacking-widths s = (refl, refl)
+
 -- the element length fact: by the number that a field of w octets holds
 module _ (w n : ℕ) (s : List ℕ) (e : numberAt w 1 s ≡ some n) where
   pub length-there : 1 + w + n ≤ length s → within s (lengthBy w s) ≡ some (1 + w + n)
@@ -34,10 +42,23 @@ module _ (w n : ℕ) (s : List ℕ) (e : numberAt w 1 s ≡ some n) where
   unfolding lengthBy
   length-short h = rw e (within-short (1 + w + n) s h)
 
+  -- what is missing; with what is there it adds up to the stated length
+  pub lacking-value : lackingBy w s ≡ 1 + w + n - length s
+  unfolding lengthBy
+  lacking-value = rw e
+
+  pub there-and-missing : length s ≤ 1 + w + n → length s + lackingBy w s ≡ 1 + w + n
+  there-and-missing h = omega (arith, lacking-value)
+
 -- where the field itself is cut
-pub field-short : (w : ℕ) (s : List ℕ) → numberAt w 1 s ≡ none → within s (lengthBy w s) ≡ none
-unfolding lengthBy within
-field-short w s e = rw e
+module _ (w : ℕ) (s : List ℕ) (e : numberAt w 1 s ≡ none) where
+  pub field-short : within s (lengthBy w s) ≡ none
+  unfolding lengthBy within
+  field-short = rw e
+
+  pub lacking-field : lackingBy w s ≡ 1 + w - length s
+  unfolding lengthBy
+  lacking-field = rw e
 
 -- the unknown rule by the first octet
 pub unknown-none : (start : ℕ) (s : List ℕ) → length s ≡ 0 → unknownLength start s ≡ none
@@ -59,6 +80,21 @@ unknown-below start (x ∷ xs) h g = rw (lt-leb 128 x g) (by (leb start x))
     by : (b : Bool) → whole (pick b tlv-e tlv) (x ∷ xs) ≡ pick b (whole tlv-e (x ∷ xs)) (whole tlv (x ∷ xs))
     by true = refl
     by false = refl
+
+-- what is missing by the first octet
+pub missing-none : (start : ℕ) (s : List ℕ) → length s ≡ 0 → missing start s ≡ 1
+unfolding missing
+missing-none start [] h = refl
+missing-none start (x ∷ xs) h = absurd (omega arith)
+
+pub missing-by : (start : ℕ) (s : List ℕ) → 0 < length s → missing start s ≡ lacking (unknownForm start (getD s 0 0)) s
+unfolding missing
+missing-by start [] h = absurd (omega arith)
+missing-by start (x ∷ xs) h = refl
+
+pub lacking-one : (s : List ℕ) → 0 < length s → lacking half s ≡ 0
+unfolding lacking stated
+lacking-one s h = omega arith
 
 -- which first octets ask to be understood
 pub required-low : (x : ℕ) → x ≤ 15 → required x ≡ true

@@ -36,7 +36,7 @@ module _ (table : List ℕ) (start : ℕ) (option : Bool) (part : List ℕ) (l :
       read-rows h = rw (passes, le-ltb mostOctets (length part) short, lt-ltb (length (l .rows)) (3 * length t) h)
 
       module _ (rows : 3 * length t ≤ length (l .rows)) where
-        pub read-cut : {a x n : ℕ} → p ≡ cutShort a x n → reading table start option part l ≡ unread l (answer 1 (a ∷ x ∷ n ∷ []))
+        pub read-cut : {a x n k : ℕ} → p ≡ cutShort a x n k → reading table start option part l ≡ unread l (answer 1 (a ∷ x ∷ n ∷ k ∷ []))
         unfolding reading readingChecks refusal cutOf
         read-cut e = rw (passes, le-ltb mostOctets (length part) short, le-ltb (length (l .rows)) (3 * length t) rows, e)
 

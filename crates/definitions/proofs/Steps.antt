@@ -13,7 +13,7 @@ use borrow.Author.Tests.{leb-true}
 use Rattle.definitions.specs.Basic.{pick}
 use Rattle.definitions.specs.Octets.{run, number, numberAt}
 use Rattle.definitions.specs.Rows.{Row, Form, half, fixed, tlv, tlv-e, placeOf, ieiOf, form, rowAt}
-use Rattle.definitions.specs.Length.{header, lengthBy, stated, within, whole, unknownForm, unknownLength, required}
+use Rattle.definitions.specs.Length.{header, lengthBy, stated, within, whole, unknownForm, unknownLength, missing, required}
 use Rattle.definitions.specs.Elements.{Element, Parted, elements, cutShort, before, Met, nothingMet, meet, octetsOf, known, stranger, Step, next, cut, ended, strangerStep, placeStep, step, stepThen, partedF, parted}
 
 -- ---- the length of an element
@@ -86,7 +86,7 @@ pub data Stands (t : List Row) (start : ℕ) (option : Bool) : Met → ℕ → L
 module _ (t : List Row) (start : ℕ) (option : Bool) where
   abbrev pub Stood : Met → ℕ → List ℕ → Step → Type 0
   Stood m at s ended = s ≡ []
-  Stood m at s (cut a x n) = Unit
+  Stood m at s (cut a x n k) = Unit
   Stood m at s (next e m′) = Stands t start option m at s e m′
 
   pub step-stood : (m : Met) (at : ℕ) (s : List ℕ) → Stood m at s (step t start option m at s)
@@ -101,11 +101,11 @@ module _ (t : List Row) (start : ℕ) (option : Bool) where
           → Stands t start option m at s (stranger at (octetsOf o s)) m
       at-length o e p r = rw (← e) (strange p r)
 
-      if : (b : Bool) → required x ≡ b → placeOf t (ieiOf x) ≡ none → whole (unknownForm start x) s ≡ none → Stood m at s (pick b (cut at x (length s)) (next (stranger at s) m))
+      if : (b : Bool) → required x ≡ b → placeOf t (ieiOf x) ≡ none → whole (unknownForm start x) s ≡ none → Stood m at s (pick b (cut at x (length s) (missing start s)) (next (stranger at s) m))
       if true r p e = tt
       if false r p e = at-length none e p (λ i. r)
 
-      by : (o : Option ℕ) → placeOf t (ieiOf x) ≡ none → whole (unknownForm start x) s ≡ o → Stood m at s (strangerStep m at x s o)
+      by : (o : Option ℕ) → placeOf t (ieiOf x) ≡ none → whole (unknownForm start x) s ≡ o → Stood m at s (strangerStep start m at x s o)
       by none p e = if (required x) refl p e
       by (some n) p e = at-length (some n) e p (λ i. cc)
 
@@ -120,7 +120,7 @@ module _ (t : List Row) (start : ℕ) (option : Bool) where
       s : List ℕ
       s = x ∷ xs
 
-      go : (o : Option ℕ) → (o ≡ none → required x ≡ false) → strangerStep m at x s o ≡ next (stranger at (octetsOf o s)) m
+      go : (o : Option ℕ) → (o ≡ none → required x ≡ false) → strangerStep start m at x s o ≡ next (stranger at (octetsOf o s)) m
       go none r = rw (r refl)
       go (some n) r = refl
   stands-step (placed k p) = rw p
@@ -141,7 +141,7 @@ pub data Reads (t : List Row) (start : ℕ) (option : Bool) : Met → ℕ → Li
 module _ (t : List Row) (start : ℕ) (option : Bool) where
   abbrev AsRead : Met → ℕ → List ℕ → Parted → Type 0
   AsRead m at s (elements es) = Reads t start option m at s es
-  AsRead m at s (cutShort a x n) = Unit
+  AsRead m at s (cutShort a x n k) = Unit
 
   left : {m m′ : Met} {at : ℕ} {s : List ℕ} {e : Element} {f : ℕ} → Stands t start option m at s e m′ → length s ≤ suc f → length (drop (length (e .octets)) s) ≤ f
   left d h = let r = stands-front t start option d in simp length-drop (omega arith)
@@ -157,12 +157,12 @@ module _ (t : List Row) (start : ℕ) (option : Bool) where
 
       put : {m′ : Met} {e : Element} (p : Parted) → Stands t start option m at s e m′ → AsRead m′ (at + length (e .octets)) (drop (length (e .octets)) s) p → AsRead m at s (before e p)
       put (elements es) d r = more d r
-      put (cutShort a x n) d r = tt
+      put (cutShort a x n k) d r = tt
 
       go : ((m : Met) (at : ℕ) (s : List ℕ) → length s ≤ f → AsRead m at s (partedF t start option f m at s)) → (o : Step) → Stood t start option m at s o
           → AsRead m at s (stepThen o (λ m′ n. partedF t start option f m′ (at + n) (drop n s)))
       go rec ended d = nil s d
-      go rec (cut a x n) d = tt
+      go rec (cut a x n k) d = tt
       go rec (next e m′) d = put (partedF t start option f m′ (at + length (e .octets)) (drop (length (e .octets)) s)) d (rec m′ (at + length (e .octets)) (drop (length (e .octets)) s) (left d h))
 
   partsF : {m : Met} {at : ℕ} {s : List ℕ} {es : List Element} (f : ℕ) → length s ≤ f → Reads t start option m at s es → partedF t start option f m at s ≡ elements es
@@ -194,7 +194,7 @@ module _ (t : List Row) (start : ℕ) (option : Bool) where
           → (o : Step) → Stood t start option m at s o
           → stepThen o (λ m′ n. partedF t start option f m′ (at + n) (drop n s)) ≡ stepThen o (λ m′ n. partedF t start option g m′ (at + n) (drop n s))
       go rec ended d = refl
-      go rec (cut a x n) d = refl
+      go rec (cut a x n k) d = refl
       go rec (next e m′) d = ap (before e) (rec m′ (at + length (e .octets)) (drop (length (e .octets)) s) (left d h) (left d k))
 
   -- what is left of a part, from a position on and with what was met before it
@@ -212,5 +212,5 @@ module _ (t : List Row) (start : ℕ) (option : Bool) where
 
       go : (o : Step) → Stood t start option m at s o → stepThen o (λ m′ n. partedF t start option (length xs) m′ (at + n) (drop n s)) ≡ stepThen o (λ m′ n. partedFrom m′ (at + n) (drop n s))
       go ended d = refl
-      go (cut a x n) d = refl
+      go (cut a x n k) d = refl
       go (next e m′) d = ap (before e) (counted (length xs) (length (drop (length (e .octets)) s)) m′ (at + length (e .octets)) (drop (length (e .octets)) s) (left d (omega arith)) (omega arith))

@@ -7,7 +7,7 @@ use lib.ListN.{length, getD, take, drop}
 use lib.Dec.{ltb, leb, eqb}
 use Rattle.definitions.specs.Basic.{pick, bit, receivable}
 use Rattle.definitions.specs.Rows.{Row, form, ieiOf, placeOf, rowAt}
-use Rattle.definitions.specs.Length.{header, whole, unknownLength, required}
+use Rattle.definitions.specs.Length.{header, whole, unknownLength, missing, required}
 
 pub data Verdict : Type 0 where
   accepted : Verdict
@@ -84,23 +84,23 @@ known t option m at s k =
 -- ---- one element at a time
 
 -- what stands at the front of what is left: an element, and what was met with it; an unknown element that is cut short and
--- refused: its start, first octet and octets to the end; or the end
+-- refused: its start, first octet, octets to the end and octets missing; or the end
 pub data Step : Type 0 where
   next : Element → Met → Step
-  cut : ℕ → ℕ → ℕ → Step
+  cut : ℕ → ℕ → ℕ → ℕ → Step
   ended : Step
 
 unfoldable pub stranger : ℕ → List ℕ → Element
 stranger at e = record { at = at; octets = e; place = none; verdict = unknown }
 
 -- an element without a place: as long as the unknown rule says; cut short, it is refused if required, else takes the rest
-unfoldable pub strangerStep : Met → ℕ → ℕ → List ℕ → Option ℕ → Step
-strangerStep m at x s (some n) = next (stranger at (take n s)) m
-strangerStep m at x s none = pick (required x) (cut at x (length s)) (next (stranger at s) m)
+unfoldable pub strangerStep : ℕ → Met → ℕ → ℕ → List ℕ → Option ℕ → Step
+strangerStep start m at x s (some n) = next (stranger at (take n s)) m
+strangerStep start m at x s none = pick (required x) (cut at x (length s) (missing start s)) (next (stranger at s) m)
 
 -- by the place of its IEI
 unfoldable pub placeStep : List Row → ℕ → Bool → Met → ℕ → ℕ → List ℕ → Option ℕ → Step
-placeStep t start option m at x s none = strangerStep m at x s (unknownLength start s)
+placeStep t start option m at x s none = strangerStep start m at x s (unknownLength start s)
 placeStep t start option m at x s (some k) = next (known t option m at s k) (meet k m)
 
 -- at a position, with what was met before it and the octets from there on
@@ -113,16 +113,16 @@ step t start option m at (x ∷ xs) = placeStep t start option m at x (x ∷ xs)
 -- what a part is: its elements, or the unknown element that is cut short and refused
 pub data Parted : Type 0 where
   elements : List Element → Parted
-  cutShort : ℕ → ℕ → ℕ → Parted
+  cutShort : ℕ → ℕ → ℕ → ℕ → Parted
 
 unfoldable pub before : Element → Parted → Parted
 before e (elements es) = elements (e ∷ es)
-before e (cutShort a x n) = cutShort a x n
+before e (cutShort a x n m) = cutShort a x n m
 
 -- by the step at the front, and what the part is behind an element of so many octets, with what was met by then
 unfoldable pub stepThen : Step → (Met → ℕ → Parted) → Parted
 stepThen ended rest = elements []
-stepThen (cut a x n) rest = cutShort a x n
+stepThen (cut a x n k) rest = cutShort a x n k
 stepThen (next e m) rest = before e (rest m (length (e .octets)))
 
 -- from a position on. Each element has an octet or more, so the octets that are left are count enough
@@ -136,7 +136,7 @@ parted t start option s = partedF t start option (length s) nothingMet 0 s
 -- the elements of a part; none of one that is refused
 unfoldable pub elementsOf : Parted → List Element
 elementsOf (elements es) = es
-elementsOf (cutShort a x n) = []
+elementsOf (cutShort a x n m) = []
 
 -- whether a place is an element's
 unfoldable pub isAt : ℕ → Element → Bool

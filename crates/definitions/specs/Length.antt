@@ -1,8 +1,8 @@
 -- How long an element is, from the octets from its first octet on (TS 24.007, 11.2.4; "Reading the optional part").
-use Prim.Native.Nat.{ℕ, zero, suc, _+_}
+use Prim.Native.Nat.{ℕ, zero, suc, _+_, _-_}
 use mathlib.Core.List.{List, [], _∷_}
 use mathlib.Core.Bool.{Bool, true, false, _||_}
-use mathlib.Core.Option.{Option, none, some, Option·map}
+use mathlib.Core.Option.{Option, none, some, Option·map, Option·getD}
 use lib.ListN.{length}
 use lib.Dec.{leb, eqb}
 use Rattle.definitions.specs.Basic.{pick}
@@ -44,6 +44,16 @@ unknownForm start x = pick (leb 128 x) half (pick (leb start x) tlv-e tlv)
 unfoldable pub unknownLength : ℕ → List ℕ → Option ℕ
 unknownLength start [] = none
 unknownLength start (x ∷ xs) = whole (unknownForm start x) (x ∷ xs)
+
+-- the octets that an element of a form lacks: up to its stated length, or, where the length field is itself cut, up to the end of
+-- that field, which is a least number
+unfoldable pub lacking : Form → List ℕ → ℕ
+lacking f s = Option·getD (stated f s) (header f) - length s
+
+-- the octets missing of an unknown element that is cut short; 1 for no octet
+unfoldable pub missing : ℕ → List ℕ → ℕ
+missing start [] = 1
+missing start (x ∷ xs) = lacking (unknownForm start x) (x ∷ xs)
 
 -- an unknown element that asks to be understood: at most 0x0f, 0x7e or 0x7f (TS 24.007, 11.2.5)
 unfoldable pub required : ℕ → Bool

@@ -16,7 +16,8 @@ unfoldable pub ascii : String → List ℕ
 ascii String.[] = []
 ascii (String._∷_ c s) = code c ∷ ascii s
 
--- a number in decimal. Five digits serve every number below 100,000; a part that is listed has at most 4,096 octets
+-- a number in decimal. Five digits serve every number below 100,000: a part that is listed has at most 4,096 octets, and at most
+-- 65,535 are missing
 unfoldable pub decimalF : ℕ → ℕ → List ℕ
 decimalF zero n = []
 decimalF (suc f) n = pick (ltb n 10) ((48 + n) ∷ []) (decimalF f (n / 10) ++ ((48 + n % 10) ∷ []))
@@ -58,7 +59,9 @@ lines (e ∷ es) = line e ++ lines es
 -- the lines of the elements of n octets, and the end; or the line of the one that is cut short
 unfoldable pub listed : ℕ → Parted → List ℕ
 listed n (elements es) = lines es ++ (ascii "end " ++ (decimal n ++ newline))
-listed n (cutShort a x k) = ascii "cut at " ++ (decimal a ++ (ascii " iei " ++ (hex (ieiOf x) ++ (ascii " octets " ++ (decimal k ++ newline)))))
+listed n (cutShort a x k m) =
+    ascii "cut at " ++ (decimal a ++ (ascii " iei " ++ (hex (ieiOf x)
+    ++ (ascii " octets " ++ (decimal k ++ (ascii " missing " ++ (decimal m ++ newline)))))))
 
 abbrev pub mostListed : ℕ
 mostListed = 4096

@@ -49,10 +49,10 @@ pub record Read : Type 0 where
 abbrev pub unread : Lent → Answer → Read
 unread l a = record { said = a; rows = l .rows; kept = l .kept; order = l .order }
 
--- refusal 1: an unknown element that is cut short, with its start, first octet and octets to the end
+-- refusal 1: an unknown element that is cut short, with its start, first octet, octets to the end and octets missing
 unfoldable pub cutOf : Parted → Option Answer
 cutOf (elements es) = none
-cutOf (cutShort a x n) = some (answer 1 (a ∷ x ∷ n ∷ []))
+cutOf (cutShort a x n m) = some (answer 1 (a ∷ x ∷ n ∷ m ∷ []))
 
 -- the checks of reading, in document 01's order: 4, 3, 2 (1), 1, 2 (2), 2 (3)
 unfoldable pub readingChecks : List Row → List ℕ → Lent → Parted → List (Option Answer)

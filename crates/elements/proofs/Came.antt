@@ -13,7 +13,7 @@ use lib.Seq.{length-take-le, getD-take}
 use lib.Dec.{ltb}
 use Rattle.definitions.specs.Basic.{pick, bit}
 use Rattle.definitions.specs.Rows.{Row, Form, form, rowsOf, rowAt, ieiOf, placeOf}
-use Rattle.definitions.specs.Length.{whole, unknownForm, unknownLength, required}
+use Rattle.definitions.specs.Length.{whole, unknownForm, unknownLength, missing, required}
 use Rattle.definitions.specs.Elements.{taken, takenBy, octetsOf, known, meet, ieiAt, stranger, strangerStep, Step as DefStep, next, cut, step, placeStep}
 use Rattle.definitions.proofs.Steps.{Frames, whole-frames, front-octets, front-first}
 use Rattle.order.specs.declared.Placed.{Placed}
@@ -62,12 +62,12 @@ module _ (table : List ℕ) (w : Whole table) (k : ℕ) where
 
 -- ---- without one
 
-module _ (s : State) (low : s .seen .low < 2 ^ 64) (left : List ℕ) (x : ℕ) where
+module _ (start : ℕ) (s : State) (low : s .seen .low < 2 ^ 64) (left : List ℕ) (x : ℕ) where
   same : s .seen ≡ seenOf (setOf (s .seen))
   same = seen-of (s .seen .high) (s .seen .low) low
 
   abbrev Strange : Option ℕ → Type 0
-  Strange o = foundAt s x (ieiOf (getD left 0 0)) 255 (length left) (cameStrange x left o) ≡ stepOf (strangerStep (metOf s) (s .at) x left o)
+  Strange o = foundAt s x (ieiOf (getD left 0 0)) 255 (length left) (cameStrange x (missing start left) left o) ≡ stepOf (strangerStep start (metOf s) (s .at) x left o)
 
   strange-there : (n : ℕ) → 1 ≤ n → n ≤ length left → Strange (some n)
   unfolding strangerStep stranger elementOf stateOf stateAt ieiAt
@@ -77,8 +77,8 @@ module _ (s : State) (low : s .seen .low < 2 ^ 64) (left : List ℕ) (x : ℕ) w
   unfolding strangerStep stranger elementOf stateOf stateAt ieiAt
   strange-cut = by (required x)
     where
-      by : (b : Bool) → foundAt s x (ieiOf (getD left 0 0)) 255 (length left) (pick b Came.Cut (Came.Is (length left) Placed.Unknown))
-          ≡ stepOf (pick b (cut (s .at) x (length left)) (next (stranger (s .at) left) (metOf s)))
+      by : (b : Bool) → foundAt s x (ieiOf (getD left 0 0)) 255 (length left) (pick b (Came.Cut (missing start left)) (Came.Is (length left) Placed.Unknown))
+          ≡ stepOf (pick b (cut (s .at) x (length left) (missing start left)) (next (stranger (s .at) left) (metOf s)))
       by true = refl
       by false = rw (← same)
 
@@ -90,12 +90,12 @@ unknown-fits start (x ∷ xs) {n = n} e =
     let f : Frames (unknownForm start x) (x ∷ xs) (some n) = rw e at (whole-frames (unknownForm start x) (x ∷ xs)) in
     (f .2, f .1)
 
-strange-found : (start : ℕ) (s : State) → s .seen .low < 2 ^ 64 → (left : List ℕ) (x : ℕ) → (let o : Option ℕ = unknownLength start left in foundAt s x (ieiOf (getD left 0 0)) 255 (length left) (cameStrange x left o) ≡ stepOf (strangerStep (metOf s) (s .at) x left o))
+strange-found : (start : ℕ) (s : State) → s .seen .low < 2 ^ 64 → (left : List ℕ) (x : ℕ) → (let o : Option ℕ = unknownLength start left in foundAt s x (ieiOf (getD left 0 0)) 255 (length left) (cameStrange x (missing start left) left o) ≡ stepOf (strangerStep start (metOf s) (s .at) x left o))
 strange-found start s low left x = by (unknownLength start left) refl
   where
-    by : (o : Option ℕ) → unknownLength start left ≡ o → Strange s low left x o
-    by (some n) e = let f = unknown-fits start left e in strange-there s low left x n (f .0) (f .1)
-    by none e = strange-cut s low left x
+    by : (o : Option ℕ) → unknownLength start left ≡ o → Strange start s low left x o
+    by (some n) e = let f = unknown-fits start left e in strange-there start s low left x n (f .0) (f .1)
+    by none e = strange-cut start s low left x
 
 -- ---- at a state's position
 
@@ -109,7 +109,7 @@ module _ (table index : List ℕ) (i : Indexed table index) (start : ℕ) (optio
   -- the two ways to how an element came, by its first octet, IEI and entry
   abbrev pub Ways : ℕ → ℕ → ℕ → Came → Type 0
   Ways x iei k c =
-      ((k ≡ 255) × (c ≡ cameStrange x left (unknownLength start left)))
+      ((k ≡ 255) × (c ≡ cameStrange x (missing start left) left (unknownLength start left)))
       ⊎ ((k ≡ 255 → ⊥) × (c ≡ cameKnown (rowSaid (numbersAt table k)) iei option (bit k (setOf (s .seen))) (ltb k (s .highest)) left))
 
   module _ (x iei k : ℕ) (x-is : x ≡ getD part (s .at) 0) (iei-is : iei ≡ ieiOf x) (octet : iei < 256) (k-is : k ≡ getD index iei 0) where

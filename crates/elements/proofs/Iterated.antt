@@ -22,7 +22,7 @@ use Rattle.elements.proofs.Nexts.{from, Nexts, ends, cuts, nexts, from-
 found-before : (d : DefElement) (p : Parted) → also (elementOf d) (foundIn p) ≡ foundIn (before d p)
 unfolding also foundIn before told
 found-before d (elements es) = refl
-found-before d (cutShort a x n) = refl
+found-before d (cutShort a x n k) = refl
 
 module _ (t : List Row) (start : ℕ) (option : Bool) (part : List ℕ) (passes : firstBad t ≡ none) (short : length part ≤ 65535) where
   here : State → Step
@@ -44,7 +44,7 @@ module _ (t : List Row) (start : ℕ) (option : Bool) (part : List ℕ) (passes 
       by (Step.Next e v) p =
           let n = nexts t start option part s i e v p in
           ap₂ also (n .is) (h e v n) ∙ found-before (n .element) (from t start option part v) ∙ ap foundIn (sym (n .parts))
-      by (Step.Cut a x n) p = ap foundIn (sym (cuts t start option part s i p))
+      by (Step.Cut a x n k) p = ap foundIn (sym (cuts t start option part s i p))
       by Step.End p = ap foundIn (sym (ends t start option part s i p))
 
   found-from : (f : ℕ) (s : State) → s .at ≤ length part → length part ≤ s .at + f → iterated t start option part (suc f) s ≡ foundIn (from t start option part s)

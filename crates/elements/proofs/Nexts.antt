@@ -63,23 +63,24 @@ module _ (t : List Row) (start : ℕ) (option : Bool) (part : List ℕ) where
       where
         of : (o : DefStep) → here ≡ o → Step.End ≡ stepOf o → from s ≡ elements []
         of ended q f = parts-by ended q
-        of (cut a x n) q f = let z : _≡_ {A = ℕ} 0 1 = cc in absurd (omega arith)
+        of (cut a x n k) q f = let z : _≡_ {A = ℕ} 0 1 = cc in absurd (omega arith)
         of (next d m) q f = let z : _≡_ {A = ℕ} 0 1 = cc in absurd (omega arith)
 
     pub at-end : length part ≤ s .at → from s ≡ elements []
     at-end h = ends (ap stepOf (sym (step-end t start option (metOf s) (s .at) left (simp length-drop (omega arith)))))
 
-    pub cuts : {a x n : ℕ} → Step.Cut a x n ≡ stepOf here → from s ≡ cutShort a x n
+    pub cuts : {a x n k : ℕ} → Step.Cut a x n k ≡ stepOf here → from s ≡ cutShort a x n k
     unfolding stepThen
-    cuts {a} {x} {n} e = of here refl e
+    cuts {a} {x} {n} {k} e = of here refl e
       where
-        of : (o : DefStep) → here ≡ o → Step.Cut a x n ≡ stepOf o → from s ≡ cutShort a x n
+        of : (o : DefStep) → here ≡ o → Step.Cut a x n k ≡ stepOf o → from s ≡ cutShort a x n k
         of ended q f = let z : _≡_ {A = ℕ} 0 1 = cc in absurd (omega arith)
-        of (cut b y k) q f =
+        of (cut b y p r) q f =
             let i : a ≡ b = cc in
             let j : x ≡ y = cc in
-            let l : n ≡ k = cc in
-            rw (i, j, l) (parts-by (cut b y k) q)
+            let l : n ≡ p = cc in
+            let m : k ≡ r = cc in
+            rw (i, j, l, m) (parts-by (cut b y p r) q)
         of (next d m) q f = let z : _≡_ {A = ℕ} 0 1 = cc in absurd (omega arith)
 
     next-by : (d : DefElement) (m : Met) → here ≡ next d m → Stands t start option (metOf s) (s .at) left d m → Nexts s (elementOf d) (stateOf d m)
@@ -110,7 +111,7 @@ module _ (t : List Row) (start : ℕ) (option : Bool) (part : List ℕ) where
       where
         of : (o : DefStep) → Stood t start option (metOf s) (s .at) left o → here ≡ o → Step.Next e v ≡ stepOf o → Nexts s e v
         of ended h q f = let z : _≡_ {A = ℕ} 0 1 = cc in absurd (omega arith)
-        of (cut b y k) h q f = let z : _≡_ {A = ℕ} 0 1 = cc in absurd (omega arith)
+        of (cut b y n k) h q f = let z : _≡_ {A = ℕ} 0 1 = cc in absurd (omega arith)
         of (next d m) h q f =
             let i : e ≡ elementOf d = cc in
             let j : v ≡ stateOf d m = cc in

@@ -12,18 +12,18 @@ use Rattle.elements.specs.declared.next.NextElement.{NextElement}
 
 pub data Found : Type 0 where
   all : List Element → Found
-  cutAt : ℕ → ℕ → ℕ → Found
+  cutAt : ℕ → ℕ → ℕ → ℕ → Found
   refused : Found
 
 unfoldable pub also : Element → Found → Found
 also e (all es) = all (e ∷ es)
-also e (cutAt a x n) = cutAt a x n
+also e (cutAt a x n k) = cutAt a x n k
 also e refused = refused
 
 -- by an answer, and what is found from the state behind an element on
 unfoldable pub onward : NextElement → (State → Found) → Found
 onward (NextElement.Next e v) rest = also e (rest v)
-onward (NextElement.Cut a x n) rest = cutAt a x n
+onward (NextElement.Cut a x n k) rest = cutAt a x n k
 onward NextElement.End rest = all []
 onward NextElement.TooLong rest = refused
 onward (NextElement.BadTable k) rest = refused
@@ -39,4 +39,4 @@ told (e ∷ es) = elementOf e ∷ told es
 
 unfoldable pub foundIn : Parted → Found
 foundIn (elements es) = all (told es)
-foundIn (cutShort a x n) = cutAt a x n
+foundIn (cutShort a x n k) = cutAt a x n k

@@ -19,7 +19,7 @@ startState = record { at = 0; seen = record { low = 0; high = 0 }; highest = 0 }
 
 abbrev pub nextAs : Step → NextElement
 nextAs (Step.Next e s) = NextElement.Next e s
-nextAs (Step.Cut a x n) = NextElement.Cut a x n
+nextAs (Step.Cut a x n k) = NextElement.Cut a x n k
 nextAs Step.End = NextElement.End
 
 -- a part over the limit is not read

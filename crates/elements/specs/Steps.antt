@@ -39,7 +39,7 @@ stateOf e m = record { at = e .at + length (e .octets); seen = seenOf (m .places
 
 abbrev pub stepOf : DefStep → Step
 stepOf (next e m) = Step.Next (elementOf e) (stateOf e m)
-stepOf (cut a x n) = Step.Cut a x n
+stepOf (cut a x n k) = Step.Cut a x n k
 stepOf ended = Step.End
 
 -- ---- as the code finds a step: how the element came, and the state behind it
@@ -51,10 +51,10 @@ fitOf r s = let n : Option ℕ = whole (form r) s in record { len = length (octe
 abbrev pub cameKnown : Row → ℕ → Bool → Bool → Bool → List ℕ → Came
 cameKnown r iei option again behind s = Came.Is (fitOf r s .len) (placedFor iei (judged option again behind (fitOf r s .taken)))
 
--- an element without one, by its first octet and its length
-abbrev pub cameStrange : ℕ → List ℕ → Option ℕ → Came
-cameStrange x s (some n) = Came.Is n Placed.Unknown
-cameStrange x s none = pick (required x) Came.Cut (Came.Is (length s) Placed.Unknown)
+-- an element without one, by its first octet, the octets missing and its length
+abbrev pub cameStrange : ℕ → ℕ → List ℕ → Option ℕ → Came
+cameStrange x m s (some n) = Came.Is n Placed.Unknown
+cameStrange x m s none = pick (required x) (Came.Cut m) (Came.Is (length s) Placed.Unknown)
 
 -- the state behind an element of a place or 255 that ends at a position; and behind one of so many octets
 unfoldable pub stateAt : State → ℕ → ℕ → State
@@ -68,4 +68,4 @@ stateAfter s k n = stateAt s k (s .at + n)
 -- the step of a state: the first octet, its IEI, the place or 255, the octets that are left, how the element came
 abbrev pub foundAt : State → ℕ → ℕ → ℕ → ℕ → Came → Step
 foundAt s x iei k left (Came.Is n p) = Step.Next (record { start = s .at; len = n; iei = iei; place = k; placed = p }) (stateAfter s k n)
-foundAt s x iei k left Came.Cut = Step.Cut (s .at) x left
+foundAt s x iei k left (Came.Cut m) = Step.Cut (s .at) x left m

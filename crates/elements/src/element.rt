@@ -1,6 +1,7 @@
 // One element at a time: how long it is, whether its row takes it, and its verdict.
 use length::Length;
 use length::UnknownKind;
+use length::UnknownLength;
 use length::generic_ie_length;
 use length::tlv_length;
 use length::tlve_length;
@@ -20,7 +21,7 @@ ghost use Prim.Native.Nat.{_+_, _≤_, _<_, max};
 ghost use lib.ListN.{length, getD, drop};
 ghost use Rattle.definitions.specs.Basic.{receivable};
 ghost use Rattle.definitions.specs.Rows.{rowsOf, form, ieiOf};
-ghost use Rattle.definitions.specs.Length.{header, within, whole, unknownLength, required};
+ghost use Rattle.definitions.specs.Length.{header, within, whole, unknownLength, missing, required};
 ghost use Rattle.definitions.specs.Elements.{takenBy, judged, step};
 ghost use Rattle.length.specs.Answers.{lengthOf};
 ghost use Rattle.rows.specs.Forms.{formAs};
@@ -48,10 +49,10 @@ pub struct Element {
 }
 
 // What stands at a position: an element and where reading is behind it; an unknown element that is cut short and must be
-// understood, by its start, first octet and octets to the end; or the end.
+// understood, by its start, first octet, octets to the end and octets missing; or the end.
 pub enum Step {
     Next(Element, State),
-    Cut(usize, u8, usize),
+    Cut(usize, u8, usize, usize),
     End,
 }
 
@@ -61,10 +62,11 @@ pub struct Fit {
     pub taken: bool,
 }
 
-// How an element came: so many octets, by a verdict; or an unknown element that is cut short and must be understood.
+// How an element came: so many octets, by a verdict; or an unknown element that is cut short and must be understood, by the
+// octets missing.
 pub enum Came {
     Is(usize, Placed),
-    Cut,
+    Cut(usize),
 }
 
 // The IEI of a first octet: from 0x80 up the top four bits, with zeros below.
@@ -209,13 +211,13 @@ pub fn came_known(
 // An element without a place, from its first octet on: as long as the unknown rule says; cut short, it is refused if it must be
 // understood, else takes the rest.
 pub fn came_unknown(left: &[u8], x: u8, tlve_start: u8) -> Came
-    ensures { λ r. ⌜ r ≡ cameStrange x (now (left .entry)) (unknownLength «tlve_start» (now (left .entry))) ⌝ }
+    ensures { λ r. ⌜ r ≡ cameStrange x (missing «tlve_start» (now (left .entry))) (now (left .entry)) (unknownLength «tlve_start» (now (left .entry))) ⌝ }
 {
     match generic_ie_length(left, tlve_start) {
-        Length::Octets(n) => Came::Is(n, Placed::Unknown),
-        Length::CutShort => {
+        UnknownLength::Octets(n) => Came::Is(n, Placed::Unknown),
+        UnknownLength::CutShort(missing) => {
             if must_be_understood(x) {
-                return Came::Cut;
+                return Came::Cut(missing);
             }
             Came::Is(left.len(), Placed::Unknown)
         }
@@ -291,6 +293,6 @@ pub(crate) fn element_step(
             },
             after(state, place, at + len),
         ),
-        Came::Cut => Step::Cut(at, x, left.len()),
+        Came::Cut(missing) => Step::Cut(at, x, left.len(), missing),
     }
 }

@@ -15,7 +15,7 @@ ghost use Rattle.elements.specs.Nexts.{nextFrom, nextOf, startState};
 // What stands at a state's position, or a refusal: the part is too long, or the table fails its check.
 pub enum NextElement {
     Next(Element, State),
-    Cut(usize, u8, usize),
+    Cut(usize, u8, usize, usize),
     End,
     TooLong,
     BadTable(usize),
@@ -38,7 +38,7 @@ fn next_by_index(
     }
     match element_step(octets, table, index, tlve_start, option, state) {
         Step::Next(e, next) => NextElement::Next(e, next),
-        Step::Cut(start, x, left) => NextElement::Cut(start, x, left),
+        Step::Cut(start, x, left, missing) => NextElement::Cut(start, x, left, missing),
         Step::End => NextElement::End,
     }
 }

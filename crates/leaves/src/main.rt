@@ -5,7 +5,7 @@ use kept::Got;
 use kept::Pushed;
 use kept::kept_get;
 use kept::kept_push;
-use length::Length;
+use length::UnknownLength;
 use length::generic_ie_length;
 use octets::part;
 use order::Placed;
@@ -60,19 +60,21 @@ fn show_logs(element: &[u8], order: &mut [u8], kept: &mut [u8]) {
     print_octets(part(kept, 0, elements));
 }
 
-// The whole length of an unknown element, and its logs.
+// The whole length of an unknown element, and its logs; or how many octets are missing.
 fn show_unknown(element: &[u8], order: &mut [u8], kept: &mut [u8]) {
     io::write_all(1, b"element");
     print_octets(element);
     match generic_ie_length(element, START) {
-        Length::Octets(n) => {
+        UnknownLength::Octets(n) => {
             io::write_all(1, b" length ");
             io::print_decimal(1, n as u64);
             show_logs(part(element, 0, n), order, kept);
             io::write_all(1, b"\n");
         }
-        Length::CutShort => {
-            io::write_all(1, b" cut short\n");
+        UnknownLength::CutShort(missing) => {
+            io::write_all(1, b" cut short, missing ");
+            io::print_decimal(1, missing as u64);
+            io::write_all(1, b"\n");
         }
     }
 }
@@ -113,6 +115,8 @@ fn main() {
     show_unknown(b"\x6f\x00", &mut order, &mut kept);
     show_unknown(b"\x70\x00\x00", &mut order, &mut kept);
     show_unknown(b"\x05\x01\xaa", &mut order, &mut kept);
+    show_unknown(b"\x05\x02\xaa", &mut order, &mut kept);
+    show_unknown(b"\x7e\x00", &mut order, &mut kept);
     let data = [0u8; 128];
     let mut log = [0u8; 512];
     show_counts(&data, &mut log);

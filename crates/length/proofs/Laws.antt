@@ -9,8 +9,9 @@ use lib.Dec.{leb}
 use Rattle.definitions.specs.Basic.{pick}
 use Rattle.definitions.specs.Length.{required}
 use mathlib.Core.Option.{Option, none, some}
-use Rattle.length.specs.Answers.{kindOf, lengthOf}
+use Rattle.length.specs.Answers.{kindOf, lengthOf, unknownOf}
 use Rattle.length.specs.declared.Length.{Length}
+use Rattle.length.specs.declared.UnknownLength.{UnknownLength}
 use Rattle.length.specs.declared.UnknownKind.{UnknownKind}
 
 pub kind-one : (x : ℕ) → UnknownKind.OneOctet ≡ kindOf x → 128 ≤ x
@@ -38,6 +39,14 @@ length-is (some m) e = cc
 pub length-cut : (o : Option ℕ) → Length.CutShort ≡ lengthOf o → o ≡ none
 length-cut none e = refl
 length-cut (some m) e = let z : _≡_ {A = ℕ} 0 1 = cc in absurd (omega arith)
+
+pub unknown-is : (m : ℕ) (o : Option ℕ) {n : ℕ} → UnknownLength.Octets n ≡ unknownOf m o → o ≡ some n
+unknown-is m none e = let z : _≡_ {A = ℕ} 0 1 = cc in absurd (omega arith)
+unknown-is m (some k) e = cc
+
+pub unknown-cut : (m : ℕ) (o : Option ℕ) {n : ℕ} → UnknownLength.CutShort n ≡ unknownOf m o → (o ≡ none) × (n ≡ m)
+unknown-cut m none e = (refl, cc)
+unknown-cut m (some k) e = let z : _≡_ {A = ℕ} 0 1 = cc in absurd (omega arith)
 
 -- and what a class says of whether the element asks to be understood
 pub kind-required : (x : ℕ) → UnknownKind.Required ≡ kindOf x → required x ≡ true

@@ -3,14 +3,22 @@ use octets::Cursor;
 use octets::Octet;
 use octets::Pair;
 ghost use mathlib.Core.Path.{_≡_};
+ghost use Prim.Native.Nat.{_-_};
+ghost use lib.ListN.{length};
 ghost use Rattle.definitions.specs.Rows.{tlv, tlv-e};
-ghost use Rattle.definitions.specs.Length.{whole, unknownLength};
-ghost use Rattle.length.specs.Answers.{lengthOf, kindOf, longOrShort};
+ghost use Rattle.definitions.specs.Length.{whole, unknownLength, lacking, missing};
+ghost use Rattle.length.specs.Answers.{lengthOf, unknownOf, kindOf, longOrShort};
 
 // The whole length, or cut short: the octets end before the element does.
 pub enum Length {
     Octets(usize),
     CutShort,
+}
+
+// The same of an unknown element: cut short, it says how many octets are missing.
+pub enum UnknownLength {
+    Octets(usize),
+    CutShort(usize),
 }
 
 // What its first octet says of an unknown element.
@@ -65,8 +73,18 @@ pub fn tlve_length(octets: &[u8]) -> Length
     }
 }
 
-// The length of an unknown element. No octet is cut short.
-pub fn generic_ie_length(octets: &[u8], tlve_start: u8) -> Length
+// The length of an unknown element, or the octets missing. No octet is cut short.
+pub fn generic_ie_length(octets: &[u8], tlve_start: u8) -> UnknownLength
+    ensures { λ r. ⌜ r ≡ unknownOf (missing «tlve_start» (now (octets .entry))) (unknownLength «tlve_start» (now (octets .entry))) ⌝ }
+{
+    match unknown_length(octets, tlve_start) {
+        Length::Octets(n) => UnknownLength::Octets(n),
+        Length::CutShort => UnknownLength::CutShort(missing_octets(octets, tlve_start)),
+    }
+}
+
+// The length alone.
+fn unknown_length(octets: &[u8], tlve_start: u8) -> Length
     ensures { λ r. ⌜ r ≡ lengthOf (unknownLength «tlve_start» (now (octets .entry))) ⌝ }
 {
     if octets.len() == 0 {
@@ -89,4 +107,51 @@ fn long_or_short(octets: &[u8], x: u8, tlve_start: u8) -> Length
     } else {
         tlve_length(octets)
     }
+}
+
+// The octets missing of an unknown element: 1 of no octet, none of one octet alone.
+fn missing_octets(octets: &[u8], tlve_start: u8) -> usize
+    ensures { λ r. ⌜ r ≡ missing «tlve_start» (now (octets .entry)) ⌝ }
+{
+    if octets.len() == 0 {
+        return 1;
+    }
+    let x = octets[0];
+    if x >= 0x80 {
+        return 0;
+    }
+    if x >= tlve_start {
+        return tlve_missing(octets);
+    }
+    tlv_missing(octets)
+}
+
+// Up to the length that one length octet states, or up to the end of that field where it is cut.
+fn tlv_missing(octets: &[u8]) -> usize
+    ensures { λ r. ⌜ r ≡ lacking tlv (now (octets .entry)) ⌝ }
+{
+    match (Cursor { at: 1 }).get_u8(octets) {
+        Octet::Is(n, _) => missing_to(2 + (n as usize), octets),
+        Octet::Short => missing_to(2, octets),
+    }
+}
+
+// The same with two length octets.
+fn tlve_missing(octets: &[u8]) -> usize
+    ensures { λ r. ⌜ r ≡ lacking tlv-e (now (octets .entry)) ⌝ }
+{
+    match (Cursor { at: 1 }).get_u16(octets) {
+        Pair::Is(n, _) => missing_to(3 + (n as usize), octets),
+        Pair::Short => missing_to(3, octets),
+    }
+}
+
+// The octets missing up to an end.
+fn missing_to(end: usize, octets: &[u8]) -> usize
+    ensures { λ r. ⌜ r ≡ end - length (now (octets .entry)) ⌝ }
+{
+    if octets.len() < end {
+        return end - octets.len();
+    }
+    0
 }

@@ -95,6 +95,6 @@ pub end-short : (n : ℕ) → length (listed n (elements [])) ≤ 10
 unfolding listed lines ascii
 end-short n = simp length-append (omega (arith, decimal-short n))
 
-pub cut-short : (a x k : ℕ) → length (listed 0 (cutShort a x k)) ≤ 33
+pub cut-short : (a x k m : ℕ) → length (listed 0 (cutShort a x k m)) ≤ 47
 unfolding listed ascii hex
-cut-short a x k = simp length-append (omega (arith, decimal-short a, decimal-short k))
+cut-short a x k m = simp length-append (omega (arith, decimal-short a, decimal-short k, decimal-short m))

@@ -30,14 +30,14 @@ use Rattle.listing.proofs.Lines.{line-is, line-short}
 
 abbrev back : NextElement → Step
 back (NextElement.Next e v) = Step.Next e v
-back (NextElement.Cut a x n) = Step.Cut a x n
+back (NextElement.Cut a x n m) = Step.Cut a x n m
 back NextElement.End = Step.End
 back NextElement.TooLong = Step.End
 back (NextElement.BadTable k) = Step.End
 
 back-as : (o : Step) → back (nextAs o) ≡ o
 back-as (Step.Next e v) = refl
-back-as (Step.Cut a x n) = refl
+back-as (Step.Cut a x n m) = refl
 back-as Step.End = refl
 
 p-passes : firstBad (rowsOf tableP) ≡ none
@@ -66,7 +66,7 @@ module _ (part : List ℕ) where
   whole-before : (d : DefElement) (p : Parted) → wholeOf (before d p) ≡ wholeOf p
   unfolding before
   whole-before d (elements es) = refl
-  whole-before d (cutShort a x n) = refl
+  whole-before d (cutShort a x n m) = refl
 
   pub record Seeking (s : State) : Type 0 where
     pub within : s .at ≤ length part
@@ -99,7 +99,7 @@ module _ (part : List ℕ) where
     whole-elements : (p : Parted) → wholeOf p ≡ Whole.Elements → p ≡ elements (elementsOf p)
     unfolding elementsOf
     whole-elements (elements es) h = refl
-    whole-elements (cutShort a x n) h = let z : _≡_ {A = ℕ} 0 1 = cc in absurd (omega arith)
+    whole-elements (cutShort a x n m) h = let z : _≡_ {A = ℕ} 0 1 = cc in absurd (omega arith)
 
     pub written-start : (s : State) → s ≡ startState → wholeOf (partedP part) ≡ Whole.Elements → Writing s out₀ first
     written-start s e h =
@@ -131,8 +131,8 @@ module _ (part : List ℕ) where
                 bound = omega (arith, i .bound, p .used, line-short e, n .further, n .some-octet);
                 ends = λ d k r. i .ends d k (at-text g (joined p r));
               }
-          by (cutShort a x m) q =
-              let f : cutShort a x m ≡ elements (i .rest) = sym (n .parts ∙ ap (before (n .element)) q) ∙ i .reads in
+          by (cutShort a x m r) q =
+              let f : cutShort a x m r ≡ elements (i .rest) = sym (n .parts ∙ ap (before (n .element)) q) ∙ i .reads in
               let z : _≡_ {A = ℕ} 0 1 = cc in
               absurd (omega arith)
 
@@ -143,9 +143,9 @@ module _ (part : List ℕ) where
         let l : i .rest ≡ [] = cc in
         i .ends out used (at-text (ap lines (sym l)) (put-none out used))
 
-    pub never-cut : {s : State} {out : List ℕ} {used a x m : ℕ} → Writing s out used → left s ≡ cutShort a x m → ⊥
+    pub never-cut : {s : State} {out : List ℕ} {used a x m r : ℕ} → Writing s out used → left s ≡ cutShort a x m r → ⊥
     never-cut i e =
-        let f : elements (i .rest) ≡ cutShort _ _ _ = sym (i .reads) ∙ e in
+        let f : elements (i .rest) ≡ cutShort _ _ _ _ = sym (i .reads) ∙ e in
         let z : _≡_ {A = ℕ} 0 1 = cc in
         omega arith
 
@@ -159,17 +159,18 @@ module _ (part : List ℕ) where
   unfolding listing
   listing-read l = rw (le-ltb 4096 (length part) l)
 
-  pub listing-cut : {a x k : ℕ} → length part ≤ 4096 → wholeOf (partedP part) ≡ Whole.Cut a x k → heading ++ listed 0 (cutShort a x k) ≡ listing part
+  pub listing-cut : {a x k r : ℕ} → length part ≤ 4096 → wholeOf (partedP part) ≡ Whole.Cut a x k r → heading ++ listed 0 (cutShort a x k r) ≡ listing part
   unfolding listed
-  listing-cut {a} {x} {k} l h = by (partedP part) refl h
+  listing-cut {a} {x} {k} {r} l h = by (partedP part) refl h
     where
-      by : (p : Parted) → partedP part ≡ p → wholeOf p ≡ Whole.Cut a x k → heading ++ listed 0 (cutShort a x k) ≡ listing part
+      by : (p : Parted) → partedP part ≡ p → wholeOf p ≡ Whole.Cut a x k r → heading ++ listed 0 (cutShort a x k r) ≡ listing part
       by (elements es) e q = let z : _≡_ {A = ℕ} 0 1 = cc in absurd (omega arith)
-      by (cutShort b y n) e q =
+      by (cutShort b y n s) e q =
           let i : a ≡ b = cc in
           let j : x ≡ y = cc in
           let m : k ≡ n = cc in
-          rw (i, j, m) (ap (λ (p : Parted). heading ++ listed (length part) p) (sym e) ∙ listing-read l)
+          let o : r ≡ s = cc in
+          rw (i, j, m, o) (ap (λ (p : Parted). heading ++ listed (length part) p) (sym e) ∙ listing-read l)
 
   pub listing-lines : length part ≤ 4096 → wholeOf (partedP part) ≡ Whole.Elements → heading ++ (lines (elementsOf (partedP part)) ++ listed (length part) (elements [])) ≡ listing part
   unfolding listed lines elementsOf
@@ -180,7 +181,7 @@ module _ (part : List ℕ) where
           ap (λ (p : Parted). heading ++ (lines (elementsOf p) ++ listed (length part) (elements []))) e
           ∙ ap (λ (p : Parted). heading ++ listed (length part) p) (sym e)
           ∙ listing-read l
-      by (cutShort b y n) e q = let z : _≡_ {A = ℕ} 0 1 = cc in absurd (omega arith)
+      by (cutShort b y n m) e q = let z : _≡_ {A = ℕ} 0 1 = cc in absurd (omega arith)
 
   -- ---- whether it is refused
 

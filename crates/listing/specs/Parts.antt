@@ -25,7 +25,7 @@ partedP part = parted (rowsOf tableP) startOf false part
 -- whether a part is read whole, or is cut short
 abbrev pub wholeOf : Parted → Whole
 wholeOf (elements es) = Whole.Elements
-wholeOf (cutShort a x n) = Whole.Cut a x n
+wholeOf (cutShort a x n m) = Whole.Cut a x n m
 
 -- the answer: the octets of the text, written where there is room for all of it
 abbrev pub listedAs : List ℕ → List ℕ → Listed
@@ -37,7 +37,7 @@ outAs text out = pick (leb (length text) (length out)) (over text out) out
 
 abbrev pub isCut : Whole → Bool
 isCut Whole.Elements = false
-isCut (Whole.Cut a x n) = true
+isCut (Whole.Cut a x n m) = true
 
 -- whether a part is refused: too long, or cut short
 abbrev pub isRefused : List ℕ → Bool

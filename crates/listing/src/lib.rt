@@ -32,10 +32,10 @@ pub enum Listed {
     NoRoom(usize),
 }
 
-// Whether a part is read whole, or is cut short: where, the first octet there, and the octets to the end.
+// Whether a part is read whole, or is cut short: where, the first octet there, the octets to the end and those missing.
 pub enum Whole {
     Elements,
-    Cut(usize, u8, usize),
+    Cut(usize, u8, usize, usize),
 }
 
 // What stands at a state's position.
@@ -45,7 +45,7 @@ fn step(octets: &[u8], state: State) -> Step
 {
     match next_element(octets, &TABLE_P, TLVE_START, false, state) {
         NextElement::Next(e, next) => Step::Next(e, next),
-        NextElement::Cut(start, x, left) => Step::Cut(start, x, left),
+        NextElement::Cut(start, x, left, missing) => Step::Cut(start, x, left, missing),
         NextElement::End => Step::End,
         NextElement::TooLong => Step::End,
         NextElement::BadTable(_) => Step::End,
@@ -62,8 +62,8 @@ fn read_whole(octets: &[u8]) -> Whole
             Step::Next(_, next) => {
                 state = next;
             }
-            Step::Cut(start, x, left) => {
-                return Whole::Cut(start, x, left);
+            Step::Cut(start, x, left, missing) => {
+                return Whole::Cut(start, x, left, missing);
             }
             Step::End => {
                 return Whole::Elements;
@@ -85,7 +85,7 @@ fn put_lines(octets: &[u8], out: &mut [u8], first: usize) -> usize
                 used = put_line(out, used, e);
                 state = next;
             }
-            Step::Cut(_, _, _) => {
+            Step::Cut(_, _, _, _) => {
                 return used;
             }
             Step::End => {
@@ -108,7 +108,7 @@ fn put_text(octets: &[u8], out: &mut [u8]) -> usize
             let next = put_lines(octets, out, used);
             put_end(out, next, octets.len())
         }
-        Whole::Cut(start, x, left) => put_cut(out, used, start, x, left),
+        Whole::Cut(start, x, left, missing) => put_cut(out, used, start, x, left, missing),
     }
 }
 
@@ -136,6 +136,6 @@ pub fn is_refused(octets: &[u8]) -> bool
     }
     match read_whole(octets) {
         Whole::Elements => false,
-        Whole::Cut(_, _, _) => true,
+        Whole::Cut(_, _, _, _) => true,
     }
 }

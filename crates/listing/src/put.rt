@@ -5,11 +5,11 @@ use octets::put_slice;
 use order::IgnoredIeReason;
 use order::Placed;
 ghost use mathlib.Core.Path.{_≡_};
-ghost use mathlib.Core.List.{[], _∷_};
+ghost use mathlib.Core.List.{[], _∷_, _++_};
 ghost use Prim.Native.Nat.{_+_, _<_, _^_};
 ghost use lib.ListN.{length};
 ghost use Rattle.definitions.specs.Elements.{elements, cutShort};
-ghost use Rattle.definitions.specs.Listing.{decimalF, decimal, hexDigit, hex, listed};
+ghost use Rattle.definitions.specs.Listing.{ascii, decimalF, decimal, hexDigit, hex, newline, listed};
 ghost use Rattle.listing.specs.Puts.{Put};
 ghost use Rattle.listing.specs.Lines.{wordOf, reasonWord, lineOf};
 
@@ -113,9 +113,16 @@ pub(crate) fn put_line(out: &mut [u8], used: usize, e: Element) -> usize
 }
 
 // The line of a part that is cut short at an element with the first octet x.
-pub(crate) fn put_cut(out: &mut [u8], used: usize, start: usize, x: u8, left: usize) -> usize
+pub(crate) fn put_cut(
+    out: &mut [u8],
+    used: usize,
+    start: usize,
+    x: u8,
+    left: usize,
+    missing: usize,
+) -> usize
     requires { ⌜ used < 2 ^ 30 ⌝ }
-    ensures { λ r. ⌜ Put (now (out .entry)) used (listed 0 (cutShort start x left)) (now (out .exit)) r ⌝ }
+    ensures { λ r. ⌜ Put (now (out .entry)) used (listed 0 (cutShort start x left missing)) (now (out .exit)) r ⌝ }
 {
     let a = put(out, used, b"cut at ");
     let b = put_decimal(out, a, start);
@@ -123,7 +130,17 @@ pub(crate) fn put_cut(out: &mut [u8], used: usize, start: usize, x: u8, left: us
     let d = put_hex(out, c, iei_of(x));
     let f = put(out, d, b" octets ");
     let g = put_decimal(out, f, left);
-    put_octet(out, g, b'\n')
+    put_missing(out, g, missing)
+}
+
+// The end of that line: the octets missing.
+fn put_missing(out: &mut [u8], used: usize, n: usize) -> usize
+    requires { ⌜ used + 14 < 2 ^ 31 ⌝ }
+    ensures { λ r. ⌜ Put (now (out .entry)) used (ascii " missing " ++ (decimal n ++ newline)) (now (out .exit)) r ⌝ }
+{
+    let a = put(out, used, b" missing ");
+    let b = put_decimal(out, a, n);
+    put_octet(out, b, b'\n')
 }
 
 // The line behind the last element of n octets.

@@ -48,7 +48,7 @@ ghost use mathlib.Core.Path.{_≡_};
 ghost use mathlib.Core.Bool.{not};
 ghost use lib.Dec.{eqb};
 ghost use Rattle.definitions.specs.Findings.{finding};
-ghost use Rattle.definitions.specs.Length.{unknownLength};
+ghost use Rattle.definitions.specs.Length.{unknownLength, missing};
 ghost use Rattle.definitions.specs.Logs.{keptPush, keptCount, keptGet, keptClear, orderGet};
 ghost use Rattle.definitions.specs.Mandatory.{mandatoryRowsOf, firstBadMandatory, mandatoryReading, mandatoryReadingBy, mandatoryWriting, mandatoryWritingBy};
 ghost use Rattle.definitions.specs.Reading.{reading, readingBy};
@@ -63,10 +63,10 @@ ghost use Rattle.answers.specs.Mandated.{MandatorySays};
 ghost use Rattle.answers.specs.Nexts.{stateBy, NextSays};
 ghost use Rattle.answers.specs.Says.{Says, ReadSays, EditSays, WriteSays, RowsWriteSays, FindingSays, checkAnswer, placeAnswer, lengthAnswer};
 
-// The length of an unknown element from the octets from its first octet on: 0 and the length, or 1, cut short.
+// The length of an unknown element from the octets from its first octet on: 0 and the length, or 1, cut short, and the octets missing.
 #[no_mangle]
 pub extern "C" fn nas_generic_ie_length(octets: &[u8], tlve_start: u8, values: &mut [u64; 5]) -> u32
-    ensures { λ r. ⌜ Says (lengthAnswer (unknownLength «tlve_start» (now (octets .entry)))) r (now (values .entry)) (now (values .exit)) ⌝ }
+    ensures { λ r. ⌜ Says (lengthAnswer (missing «tlve_start» (now (octets .entry))) (unknownLength «tlve_start» (now (octets .entry)))) r (now (values .entry)) (now (values .exit)) ⌝ }
 {
     length_said(generic_ie_length(octets, tlve_start), values)
 }
@@ -167,7 +167,8 @@ pub extern "C" fn nas_order_get(log: &[u8], used: usize, k: usize, values: &mut 
 }
 
 // An optional part by a lent table, with the start number of the long form; option 0 is off, any other on. 0 and the octets
-// used of the kept log and the order log; 4 and the first bad row; 3; 2 and which; 1, start, first octet and octets to the end.
+// used of the kept log and the order log; 4 and the first bad row; 3; 2 and which; 1, start, first octet,
+// octets to the end and octets missing.
 #[no_mangle]
 pub extern "C" fn nas_read(
     part: &[u8],
@@ -207,8 +208,8 @@ pub extern "C" fn nas_read_by(
 }
 
 // The element at a state of four numbers: position, places met from 0 to 63 and from 64 to 127, highest place. 0, its length,
-// IEI, place or 255, and how it came, and the state is then behind it; at the end 0 and no value; 1, start, first octet and
-// octets to the end; 4 and the first bad row; 3.
+// IEI, place or 255, and how it came, and the state is then behind it; at the end 0 and no value; 1, start, first octet,
+// octets to the end and octets missing; 4 and the first bad row; 3.
 #[no_mangle]
 pub extern "C" fn nas_next(
     part: &[u8],

@@ -57,10 +57,10 @@ enough table start option part l es h k p =
     let r = logs-room (rowsOf table) start option part es p in
     done table start option part l h p (k .rows) (omega arith) (omega arith)
 
-cut-said : (table : List ℕ) (start : ℕ) (option : Bool) (part : List ℕ) (l : Lent) → Readable table part → Enough table part l → (a x n : ℕ)
-    → parted (rowsOf table) start option part ≡ cutShort a x n → reading table start option part l .said .number ≡ 1
+cut-said : (table : List ℕ) (start : ℕ) (option : Bool) (part : List ℕ) (l : Lent) → Readable table part → Enough table part l → (a x n m : ℕ)
+    → parted (rowsOf table) start option part ≡ cutShort a x n m → reading table start option part l .said .number ≡ 1
 unfolding reading readingChecks refusal cutOf
-cut-said table start option part l h k a x n p = rw (p, h .passes, le-ltb _ _ (h .short), le-ltb _ _ (k .rows))
+cut-said table start option part l h k a x n m p = rw (p, h .passes, le-ltb _ _ (h .short), le-ltb _ _ (k .rows))
 
 pub reading-done : ReadingDone
 unfolding readElements
@@ -68,4 +68,4 @@ reading-done table start option part l h k n = go (parted (rowsOf table) start o
   where
     go : (p : Parted) → parted (rowsOf table) start option part ≡ p → reading table start option part l .said .number ≡ 0
     go (elements es) p = rw (enough table start option part l es h k p)
-    go (cutShort a x m) p = absurd (n (cut-said table start option part l h k a x m p))
+    go (cutShort a x m q) p = absurd (n (cut-said table start option part l h k a x m q p))

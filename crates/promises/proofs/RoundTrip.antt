@@ -157,7 +157,7 @@ unfolding refusal cutOf
 passed l r (some k) a b p c d h = absurd (omega arith)
 passed l r none true b p c d h = absurd (omega arith)
 passed l r none false true p c d h = absurd (omega arith)
-passed l r none false false (cutShort x y z) c d h = absurd (omega arith)
+passed l r none false false (cutShort x y z w) c d h = absurd (omega arith)
 passed l r none false false (elements es) true d h = absurd (omega arith)
 passed l r none false false (elements es) false true h = absurd (omega arith)
 passed l r none false false (elements es) false false h = record { one = refl; two = refl; three = refl; four = (es, refl); five = refl; six = refl }

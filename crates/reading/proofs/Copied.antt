@@ -49,7 +49,7 @@ module _ (t : List Row) (passes : firstBad t ≡ none) (start : ℕ) (option : B
     plainly e {rows′ = rows′} q = by p refl e
       where
         by : (o : Parted) → p ≡ o → some found ≡ plainRows t 0 o (replicate w 0) → Plainly t o true rows rows′
-        by (cutShort a x m) c f = let z : _≡_ {A = ℕ} 0 1 = cc in absurd (omega arith)
+        by (cutShort a x m q) c f = let z : _≡_ {A = ℕ} 0 1 = cc in absurd (omega arith)
         by (elements es) c f = go (plainFrom t 0 es) refl f
           where
             go : (b : Bool) → plainFrom t 0 es ≡ b → some found ≡ pick b (some (enteredAll t es (replicate w 0))) none → Plainly t (elements es) true rows rows′
@@ -65,7 +65,7 @@ module _ (t : List Row) (passes : firstBad t ≡ none) (start : ℕ) (option : B
 
       by : (o : Parted) → none ≡ plainRows t 0 o (replicate w 0) → false ≡ plainIn t 0 o
       by (elements es) f = go (plainFrom t 0 es) _ f
-      by (cutShort a x m) f = refl
+      by (cutShort a x m q) f = refl
 
   -- every element entered among zeros, with the octets used of each log, and copied out
   pub written : (n : ℕ) → n ≡ 3 * length t → {k o : ℕ} {rows kept order kept₀ order₀ found aside entries rows′ kept′ order′ : List ℕ} → Entered t p k o (replicate w 0) kept₀ order₀ found aside entries

@@ -47,11 +47,11 @@ pub record Needs (t : List Row) (p : Parted) (k o : ℕ) : Type 0 where
 entries-are : (t : List Row) (p : Parted) → plainIn t 0 p ≡ false → p ≡ elements (elementsOf p) → entriesOf (elementsOf p) ≡ orderOf t (elementsOf p)
 unfolding elementsOf orderOf
 entries-are t (elements es) f e = rw f
-entries-are t (cutShort a x n) f e = let z : _≡_ {A = ℕ} 0 1 = cc in absurd (omega arith)
+entries-are t (cutShort a x n m) f e = let z : _≡_ {A = ℕ} 0 1 = cc in absurd (omega arith)
 
 pub needed : (t : List Row) (p : Parted) → plainIn t 0 p ≡ false → {k o : ℕ} → Measured.Needs k o ≡ measuredFrom noTally p → Needs t p k o
 unfolding elementsOf
-needed t (cutShort a x n) f e = let z : _≡_ {A = ℕ} 0 1 = cc in absurd (omega arith)
+needed t (cutShort a x n m) f e = let z : _≡_ {A = ℕ} 0 1 = cc in absurd (omega arith)
 needed t (elements es) f {k = k} {o = o} e =
     let a : k ≡ 0 + length (keptOf es) = cc in
     let b : o ≡ 0 + length (entriesOf es) = cc in
@@ -60,25 +60,26 @@ needed t (elements es) f {k = k} {o = o} e =
 pub needed-by : {t : List Row} {p : Parted} {k o : ℕ} {rows kept order rows′ kept′ order′ : List ℕ} → plainIn t 0 p ≡ false → Entered t p k o rows kept order rows′ kept′ order′ → Needs t p k o
 needed-by {t = t} {p = p} f e = record { decodes = e .decodes; kept = e .kept-used; order = entries-are t p f (e .decodes); entries = e .order-used }
 
-pub cut-is : (p : Parted) {a x n : ℕ} → Measured.Cut a x n ≡ measuredFrom noTally p → p ≡ cutShort a x n
+pub cut-is : (p : Parted) {a x n m : ℕ} → Measured.Cut a x n m ≡ measuredFrom noTally p → p ≡ cutShort a x n m
 cut-is (elements es) e = let z : _≡_ {A = ℕ} 0 1 = cc in absurd (omega arith)
-cut-is (cutShort b y m) {a = a} {x = x} {n = n} e =
+cut-is (cutShort b y p q) {a = a} {x = x} {n = n} {m = m} e =
     let i : a ≡ b = cc in
     let j : x ≡ y = cc in
-    let l : n ≡ m = cc in
-    rw (i, j, l)
+    let l : n ≡ p = cc in
+    let k : m ≡ q = cc in
+    rw (i, j, l, k)
 
 -- ---- a part of which the table says all
 
 plain-decodes : (t : List Row) (p : Parted) → plainIn t 0 p ≡ true → p ≡ elements (elementsOf p)
 unfolding elementsOf
 plain-decodes t (elements es) e = refl
-plain-decodes t (cutShort a x n) e = absurd (false≢true e)
+plain-decodes t (cutShort a x n m) e = absurd (false≢true e)
 
 plain-order : (t : List Row) (p : Parted) → plainIn t 0 p ≡ true → orderOf t (elementsOf p) ≡ []
 unfolding elementsOf orderOf
 plain-order t (elements es) e = rw e
-plain-order t (cutShort a x n) e = absurd (false≢true e)
+plain-order t (cutShort a x n m) e = absurd (false≢true e)
 
 kept-none : (t : List Row) (least : ℕ) (es : List Element) → plainFrom t least es ≡ true → keptOf es ≡ []
 unfolding plainFrom keptOf isAccepted
@@ -99,7 +100,7 @@ kept-none t least (d ∷ es) e = by (d .place) (d .verdict) e (λ k. kept-none t
 plain-kept : (t : List Row) (p : Parted) → plainIn t 0 p ≡ true → keptOf (elementsOf p) ≡ []
 unfolding elementsOf
 plain-kept t (elements es) e = kept-none t 0 es e
-plain-kept t (cutShort a x n) e = absurd (false≢true e)
+plain-kept t (cutShort a x n m) e = absurd (false≢true e)
 
 -- ---- the answers
 
@@ -124,7 +125,7 @@ module _ (table : List ℕ) (start : ℕ) (option : Bool) (part rows kept order 
     no-rows h = refused {l = l} (read-rows table start option part l passes short h) refl
 
     module _ (room : 3 * length t ≤ length rows) where
-      pub cut-short : {a x n : ℕ} → p ≡ cutShort a x n → Reads r (Decoded.CutShort a x n) rows kept order
+      pub cut-short : {a x n m : ℕ} → p ≡ cutShort a x n m → Reads r (Decoded.CutShort a x n m) rows kept order
       cut-short e = refused {l = l} (read-cut table start option part l passes short room e) refl
 
       -- what is left where reading is done

@@ -97,7 +97,7 @@ front t d (elements es) k o rows kept order f g =
     same-done (omega (arith, ap length (kept-cons d es) ∙ length-append (entry d) (keptOf es))) (omega (arith, ap length (notes-cons d es) ∙ length-append (note d) (entriesOf es))) refl
     (over-next k (entry d) (keptOf es) kept f ∙ ap (λ (x : List ℕ). overAt k x kept) (sym (kept-cons d es)))
     (over-next o (note d) (entriesOf es) order g ∙ ap (λ (x : List ℕ). overAt o x order) (sym (notes-cons d es)))
-front t d (cutShort a x n) k o rows kept order f g = refl
+front t d (cutShort a x n m) k o rows kept order f g = refl
 
 -- the room behind it
 record Behind (v : Parted) (ke no left k o kept order : ℕ) : Type 0 where
@@ -115,8 +115,8 @@ room-behind d (elements es) left len k o kept order e f g h (exact c a b) =
     let l = ap length (kept-cons d es) ∙ length-append (entry d) (keptOf es) in
     let m = ap length (notes-cons d es) ∙ length-append (note d) (entriesOf es) in
     record { fits-kept = omega arith; fits-order = omega arith; room = exact refl (omega arith) (omega arith) }
-room-behind d (cutShort x y z) left len k o kept order e f g h (exact c a b) =
-    let q : cutShort x y z ≡ elements _ = sym e ∙ c in
+room-behind d (cutShort x y z w) left len k o kept order e f g h (exact c a b) =
+    let q : cutShort x y z w ≡ elements _ = sym e ∙ c in
     let z′ : _≡_ {A = ℕ} 0 1 = cc in
     absurd (omega arith)
 
@@ -249,7 +249,7 @@ module _ (table index : List ℕ) (start : ℕ) (option : Bool) (part rows₀ ke
         ∙ ap (λ (p : Parted). filledFrom t p k o rows kept order) (sym e)
         ∙ i .tells
 
-    pub cut-there : {a x n : ℕ} → from t start option part s ≡ cutShort a x n → cut a x n ≡ whole
+    pub cut-there : {a x n m : ℕ} → from t start option part s ≡ cutShort a x n m → cut a x n m ≡ whole
     cut-there e = ap (λ (p : Parted). filledFrom t p k o rows kept order) (sym e) ∙ i .tells
 
 -- ---- what is left of a part
@@ -266,7 +266,7 @@ pub record Entered (t : List Row) (p : Parted) (k o : ℕ) (rows kept order rows
 pub entered : (t : List Row) (p : Parted) (k o : ℕ) (rows kept order : List ℕ) {rows′ kept′ order′ : List ℕ} → done k o rows′ kept′ order′ ≡ filledFrom t p 0 0 rows kept order
     → Entered t p k o rows kept order rows′ kept′ order′
 unfolding elementsOf overAt
-entered t (cutShort a x n) k o rows kept order e = let z : _≡_ {A = ℕ} 0 1 = cc in absurd (omega arith)
+entered t (cutShort a x n m) k o rows kept order e = let z : _≡_ {A = ℕ} 0 1 = cc in absurd (omega arith)
 entered t (elements es) k o rows kept order {rows′ = rows′} {kept′ = kept′} {order′ = order′} e =
     let a : k ≡ 0 + length (keptOf es) = cc in
     let b : o ≡ 0 + length (entriesOf es) = cc in
@@ -275,20 +275,21 @@ entered t (elements es) k o rows kept order {rows′ = rows′} {kept′ = kept�
     let f : order′ ≡ overAt 0 (entriesOf es) order = cc in
     record { decodes = refl; kept-used = omega arith; order-used = omega arith; rows-are = c; kept-is = d; order-is = f }
 
-pub cut-of : (t : List Row) (p : Parted) (k o : ℕ) (rows kept order : List ℕ) {a x n : ℕ} → cut a x n ≡ filledFrom t p k o rows kept order → p ≡ cutShort a x n
+pub cut-of : (t : List Row) (p : Parted) (k o : ℕ) (rows kept order : List ℕ) {a x n m : ℕ} → cut a x n m ≡ filledFrom t p k o rows kept order → p ≡ cutShort a x n m
 cut-of t (elements es) k o rows kept order e = let z : _≡_ {A = ℕ} 0 1 = cc in absurd (omega arith)
-cut-of t (cutShort b y m) k o rows kept order {a = a} {x = x} {n = n} e =
+cut-of t (cutShort b y p q) k o rows kept order {a = a} {x = x} {n = n} {m = m} e =
     let i : a ≡ b = cc in
     let j : x ≡ y = cc in
-    let l : n ≡ m = cc in
-    rw (i, j, l)
+    let l : n ≡ p = cc in
+    let h : m ≡ q = cc in
+    rw (i, j, l, h)
 
 -- of a part that decodes, whatever was answered
 pub entered-whole : (t : List Row) (p : Parted) → p ≡ elements (elementsOf p) → (m : Measured) {rows kept order rows′ kept′ order′ : List ℕ} → outcome m rows′ kept′ order′ ≡ filledFrom t p 0 0 rows kept order
     → (k : ℕ) × ((o : ℕ) × Entered t p k o rows kept order rows′ kept′ order′)
 entered-whole t p d (Measured.Needs k o) {rows = rows} {kept = kept} {order = order} e = (k, (o, entered t p k o rows kept order e))
-entered-whole t p d (Measured.Cut a x n) {rows = rows} {kept = kept} {order = order} e =
-    let q : elements (elementsOf p) ≡ cutShort a x n = sym d ∙ cut-of t p 0 0 rows kept order e in
+entered-whole t p d (Measured.Cut a x n m) {rows = rows} {kept = kept} {order = order} e =
+    let q : elements (elementsOf p) ≡ cutShort a x n m = sym d ∙ cut-of t p 0 0 rows kept order e in
     let z : _≡_ {A = ℕ} 0 1 = cc in
     absurd (omega arith)
 

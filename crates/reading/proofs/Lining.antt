@@ -13,7 +13,7 @@ use lib.ListN.{length, getD, drop}
 use lib.Dec.{eqb, leb, ltb}
 use Rattle.definitions.specs.Basic.{pick, bit, overAt}
 use Rattle.definitions.specs.Rows.{Row, rowsOf, rowAt, ieiOf, firstIei, firstBad}
-use Rattle.definitions.specs.Length.{unknownLength, required}
+use Rattle.definitions.specs.Length.{unknownLength, missing, required}
 use Rattle.definitions.specs.Elements.{Verdict, accepted, unknown, malformed, repeated, outOfSequence, isAccepted, judged, Element as DefElement, ieiAt, Parted, elements, cutShort, before, Met, meet, stranger, known, parted, step}
 use Rattle.definitions.specs.Logs.{plainFrom}
 use Rattle.definitions.proofs.Steps.{Stands, strange, placed}
@@ -77,13 +77,13 @@ module _ (t : List Row) (least : ℕ) (rows : List ℕ) where
     unfolding before plainFrom
     aside none v (elements es) h = refl
     aside (some k) v (elements es) h = rw h
-    aside o v (cutShort a x n) h = refl
+    aside o v (cutShort a x n m) h = refl
 
     front : (o : Option ℕ) (v : Verdict) (p : Parted) → HasPlace o v → plainRows t least (before (made o v) p) rows ≡ ahead (elementOf (made o v)) p (placedFor (ieiAt (made o v)) v)
     unfolding before plainFrom enteredAll elementOf isAccepted
     front none accepted p h = let z : _≡_ {A = Bool} true false = h in absurd (true≢false z)
     front (some k) accepted (elements es) h = pick-both (leb least k) (eqb (ieiAt (made (some k) accepted)) (firstIei t k)) (plainFrom t (suc k) es) _
-    front (some k) accepted (cutShort a x n) h = pick-none (leb least k && eqb (ieiAt (made (some k) accepted)) (firstIei t k))
+    front (some k) accepted (cutShort a x n m) h = pick-none (leb least k && eqb (ieiAt (made (some k) accepted)) (firstIei t k))
     front o unknown p h = aside o unknown p refl
     front o malformed p h = aside o malformed p refl
     front o repeated p h = aside o repeated p refl
@@ -164,16 +164,16 @@ module _ (table index : List ℕ) (i : Indexed table index) (passes : firstBad (
 
     -- without a place
     pub none-strange : k ≡ 255 → none ≡ whole
-    none-strange e = by (unknownLength start left) (here-is (cameStrange x left (unknownLength start left)) (inl (e, refl)))
+    none-strange e = by (unknownLength start left) (here-is (cameStrange x (missing start left) left (unknownLength start left)) (inl (e, refl)))
       where
         by-next : (n : ℕ) → foundAt s x iei k (length left) (Came.Is n Placed.Unknown) ≡ stepOf (step t start option (metOf s) at left) → none ≡ whole
         by-next n q = ahead-is _ _ (nexts t start option part s (l .line .within) _ _ q)
 
-        by-cut : (b : Bool) → foundAt s x iei k (length left) (pick b Came.Cut (Came.Is (length left) Placed.Unknown)) ≡ stepOf (step t start option (metOf s) at left) → none ≡ whole
+        by-cut : (b : Bool) → foundAt s x iei k (length left) (pick b (Came.Cut (missing start left)) (Came.Is (length left) Placed.Unknown)) ≡ stepOf (step t start option (metOf s) at left) → none ≡ whole
         by-cut true q = ap (λ (p : Parted). plainRows t least p rows) (sym (cuts t start option part s (l .line .within) q)) ∙ l .tells
         by-cut false q = by-next (length left) q
 
-        by : (o : Option ℕ) → foundAt s x iei k (length left) (cameStrange x left o) ≡ stepOf (step t start option (metOf s) at left) → none ≡ whole
+        by : (o : Option ℕ) → foundAt s x iei k (length left) (cameStrange x (missing start left) left o) ≡ stepOf (step t start option (metOf s) at left) → none ≡ whole
         by (some n) q = by-next n q
         by none q = by-cut (required x) q
 

@@ -17,7 +17,7 @@ room-back (suc (suc (suc n))) = Room.Order
 
 decoded-back : ℕ → List ℕ → Decoded
 decoded-back zero vs = Decoded.Done (getD vs 0 0) (getD vs 1 0)
-decoded-back (suc zero) vs = Decoded.CutShort (getD vs 0 0) (getD vs 1 0) (getD vs 2 0)
+decoded-back (suc zero) vs = Decoded.CutShort (getD vs 0 0) (getD vs 1 0) (getD vs 2 0) (getD vs 3 0)
 decoded-back (suc (suc zero)) vs = Decoded.NoRoom (room-back (getD vs 0 0))
 decoded-back (suc (suc (suc zero))) vs = Decoded.TooLong
 decoded-back (suc (suc (suc (suc zero)))) vs = Decoded.BadTable (getD vs 0 0)
@@ -26,7 +26,7 @@ decoded-back (suc (suc (suc (suc (suc n))))) vs = Decoded.NoTable
 decoded-found : (d : Decoded) → decoded-back (decodedAs d .number) (decodedAs d .values) ≡ d
 unfolding decoded-back room-back
 decoded-found (Decoded.Done kept order) = refl
-decoded-found (Decoded.CutShort start x left) = refl
+decoded-found (Decoded.CutShort start x left missing) = refl
 decoded-found (Decoded.NoRoom Room.Rows) = refl
 decoded-found (Decoded.NoRoom Room.Kept) = refl
 decoded-found (Decoded.NoRoom Room.Order) = refl

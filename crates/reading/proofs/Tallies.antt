@@ -38,7 +38,7 @@ module _ (c : Tally) (at : ℕ) (octets : List ℕ) (es : List Element) (o : Opt
 pub tally-before : (c : Tally) (e : Element) (p : Parted) → measuredFrom (tallied c (elementOf e .len) (elementOf e .placed)) p ≡ measuredFrom c (before e p)
 unfolding before elementOf
 tally-before c e (elements es) = same c (e .at) (e .octets) es (e .place) (e .verdict)
-tally-before c e (cutShort a x n) = refl
+tally-before c e (cutShort a x n m) = refl
 
 -- each log needs at most twice the octets
 pub record Room (c : Tally) (len : ℕ) (p : Placed) : Type 0 where

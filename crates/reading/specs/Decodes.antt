@@ -14,7 +14,7 @@ roomAs Room.Order = 3
 
 abbrev pub decodedAs : Decoded → Answer
 decodedAs (Decoded.Done kept order) = answer 0 (kept ∷ order ∷ [])
-decodedAs (Decoded.CutShort start x left) = answer 1 (start ∷ x ∷ left ∷ [])
+decodedAs (Decoded.CutShort start x left missing) = answer 1 (start ∷ x ∷ left ∷ missing ∷ [])
 decodedAs (Decoded.NoRoom which) = answer 2 (roomAs which ∷ [])
 decodedAs Decoded.TooLong = answer 3 []
 decodedAs (Decoded.BadTable row) = answer 4 (row ∷ [])

@@ -68,18 +68,18 @@ enteredAll t (e ∷ es) rows = enteredAll t es (rowEntered t (elementOf e) rows)
 -- the octets used of each log, and what is then in the rows and logs; or the unknown element that is cut short
 pub data Outcome : Type 0 where
   done : ℕ → ℕ → List ℕ → List ℕ → List ℕ → Outcome
-  cut : ℕ → ℕ → ℕ → Outcome
+  cut : ℕ → ℕ → ℕ → ℕ → Outcome
 
 -- a part entered behind so many octets of each log
 abbrev pub filledFrom : List Row → Parted → ℕ → ℕ → List ℕ → List ℕ → List ℕ → Outcome
 filledFrom t (elements es) k o rows kept order =
     done (k + length (keptOf es)) (o + length (entriesOf es)) (enteredAll t es rows) (overAt k (keptOf es) kept) (overAt o (entriesOf es) order)
-filledFrom t (cutShort a x n) k o rows kept order = cut a x n
+filledFrom t (cutShort a x n m) k o rows kept order = cut a x n m
 
 -- what the code answers and leaves
 abbrev pub outcome : Measured → List ℕ → List ℕ → List ℕ → Outcome
 outcome (Measured.Needs k o) rows kept order = done k o rows kept order
-outcome (Measured.Cut a x n) rows kept order = cut a x n
+outcome (Measured.Cut a x n m) rows kept order = cut a x n m
 
 -- room behind so many octets of each log: for what a part that decodes needs, or for twice its octets, which is as much as any needs
 pub data Room (p : Parted) (left k o kept order : ℕ) : Type 0 where

@@ -23,4 +23,4 @@ tallied c len (Placed.Ignored r) = withAside c len
 -- what a part needs with what was needed before it
 abbrev pub measuredFrom : Tally → Parted → Measured
 measuredFrom c (elements es) = Measured.Needs (c .kept + length (keptOf es)) (c .order + length (entriesOf es))
-measuredFrom c (cutShort a x n) = Measured.Cut a x n
+measuredFrom c (cutShort a x n m) = Measured.Cut a x n m

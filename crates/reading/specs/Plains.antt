@@ -16,12 +16,12 @@ use Rattle.reading.specs.Fills.{enteredAll}
 -- whether the table says all of a part, where no place below the least may come
 abbrev pub plainIn : List Row → ℕ → Parted → Bool
 plainIn t least (elements es) = plainFrom t least es
-plainIn t least (cutShort a x n) = false
+plainIn t least (cutShort a x n m) = false
 
 -- the rows with every element of such a part entered; none of another part
 abbrev pub plainRows : List Row → ℕ → Parted → List ℕ → Option (List ℕ)
 plainRows t least (elements es) rows = pick (plainFrom t least es) (some (enteredAll t es rows)) none
-plainRows t least (cutShort a x n) rows = none
+plainRows t least (cutShort a x n m) rows = none
 
 -- a part that is not too long, under a table that passes and its index, and so many numbers for its rows
 pub record Fits (table index part : List ℕ) (n : ℕ) : Type 0 where

@@ -47,7 +47,7 @@ pub enum Room {
 // What reading answers: the octets used of the kept log and the order log, or a refusal.
 pub enum Decoded {
     Done(usize, usize),
-    CutShort(usize, u8, usize),
+    CutShort(usize, u8, usize, usize),
     NoRoom(Room),
     TooLong,
     BadTable(usize),
@@ -139,7 +139,7 @@ fn decode_long(
     ensures { λ r. ⌜ Reads (reading (now (table .entry)) «tlve_start» option (now (octets .entry)) (lentOf (now (rows .entry)) (now (kept .entry)) (now (order .entry)))) r (now (rows .exit)) (now (kept .exit)) (now (order .exit)) ⌝ }
 {
     match measure(octets, table, index, tlve_start, option) {
-        Measured::Cut(start, x, left) => Decoded::CutShort(start, x, left),
+        Measured::Cut(start, x, left, missing) => Decoded::CutShort(start, x, left, missing),
         Measured::Needs(k, o) => {
             if kept.len() < k {
                 return Decoded::NoRoom(Room::Kept);

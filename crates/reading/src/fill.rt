@@ -164,8 +164,8 @@ pub(crate) fn fill_elements(
                 o = note(placed, order, o);
                 state = after(state, place, at + len);
             }
-            Came::Cut => {
-                return Measured::Cut(at, x, left.len());
+            Came::Cut(missing) => {
+                return Measured::Cut(at, x, left.len(), missing);
             }
         }
     }

@@ -26,10 +26,10 @@ pub struct Tally {
     pub order: usize,
 }
 
-// What a part needs, or the unknown element that is cut short.
+// What a part needs, or the unknown element that is cut short: its start, first octet, octets to the end and octets missing.
 pub enum Measured {
     Needs(usize, usize),
-    Cut(usize, u8, usize),
+    Cut(usize, u8, usize, usize),
 }
 
 // With one element more.
@@ -98,8 +98,8 @@ pub(crate) fn measure(
                 t = with_element(t, len, placed);
                 state = after(state, place, at + len);
             }
-            Came::Cut => {
-                return Measured::Cut(at, x, left.len());
+            Came::Cut(missing) => {
+                return Measured::Cut(at, x, left.len(), missing);
             }
         }
     }

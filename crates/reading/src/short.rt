@@ -57,7 +57,7 @@ pub(crate) fn decode_short(
         &mut aside,
         &mut entries,
     ) {
-        Measured::Cut(start, x, left) => Decoded::CutShort(start, x, left),
+        Measured::Cut(start, x, left, missing) => Decoded::CutShort(start, x, left, missing),
         Measured::Needs(k, o) => {
             if kept.len() < k {
                 return Decoded::NoRoom(Room::Kept);

@@ -317,11 +317,12 @@ fn no_room_is(list: &[u8], at: usize, room: Room) -> bool {
     }
 }
 
-fn cut_is(list: &[u8], at: usize, start: usize, x: u8, left: usize) -> bool {
-    numbered(list, at, 1, 3)
+fn cut_is(list: &[u8], at: usize, start: usize, x: u8, left: usize, missing: usize) -> bool {
+    numbered(list, at, 1, 4)
         && value_is(list, at, 0, start)
         && value_is(list, at, 1, x as usize)
         && value_is(list, at, 2, left)
+        && value_is(list, at, 3, missing)
 }
 
 fn done_is(list: &[u8], at: usize, kept: usize, order: usize) -> bool {
@@ -331,7 +332,7 @@ fn done_is(list: &[u8], at: usize, kept: usize, order: usize) -> bool {
 fn said_is(list: &[u8], at: usize, said: Decoded) -> bool {
     match said {
         Decoded::Done(kept, order) => done_is(list, at, kept, order),
-        Decoded::CutShort(start, x, left) => cut_is(list, at, start, x, left),
+        Decoded::CutShort(start, x, left, missing) => cut_is(list, at, start, x, left, missing),
         Decoded::NoRoom(room) => no_room_is(list, at, room),
         Decoded::TooLong => numbered(list, at, 3, 0),
         Decoded::BadTable(row) => numbered(list, at, 4, 1) && value_is(list, at, 0, row),

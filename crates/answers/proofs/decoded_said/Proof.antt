@@ -13,11 +13,11 @@ two-requires c κs = search needs
 enum-known-decoded-2 : tie.Need-enum-known-decoded-2
 enum-known-decoded-2 c = search needs
 
-cast-three : tie.Need-cast-three
-cast-three c = search needs
+cast-four : tie.Need-cast-four
+cast-four c = search needs
 
-three-requires : tie.Need-three-requires
-three-requires c κs = search needs
+four-requires : tie.Need-four-requires
+four-requires c κs = search needs
 
 enum-known-decoded-3 : tie.Need-enum-known-decoded-3
 enum-known-decoded-3 c = search needs
@@ -47,7 +47,7 @@ returns : tie.Need-returns
 returns c = rw (c .before .before .before .decoded .given .1) (c .two .ensures)
 
 returns-2 : tie.Need-returns-2
-returns-2 c = rw (c .before .before .before .decoded2 .given .1) (c .three .ensures)
+returns-2 c = rw (c .before .before .before .decoded2 .given .1) (c .four .ensures)
 
 returns-3 : tie.Need-returns-3
 returns-3 c = rw (c .before .before .before .decoded3 .given .1) (c .room-said .ensures)
@@ -68,8 +68,8 @@ decoded-said-spec =
     enum-known-decoded
     two-requires
     enum-known-decoded-2
-    cast-three
-    three-requires
+    cast-four
+    four-requires
     enum-known-decoded-3
     room-said-requires
     enum-told

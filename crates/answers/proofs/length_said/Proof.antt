@@ -10,18 +10,18 @@ enum-known-length c = search needs
 one-requires : tie.Need-one-requires
 one-requires c κs = search needs
 
-enum-told : tie.Need-enum-told
-enum-told c = search needs
+enum-known-length-2 : tie.Need-enum-known-length-2
+enum-known-length-2 c = search needs
 
-none-requires : tie.Need-none-requires
-none-requires c κs = search needs
+one-requires-2 : tie.Need-one-requires-2
+one-requires-2 c κs = search needs
 
 returns : tie.Need-returns
 returns c = rw (c .before .before .before .length .given .1) (c .one .ensures)
 
 returns-2 : tie.Need-returns-2
-returns-2 c = rw (c .before .before .enum-told .given .1) (c .none .ensures)
+returns-2 c = rw (c .before .before .before .length2 .given .1) (c .one2 .ensures)
 
 pub length-said-spec : {M : Type 1} → statement M
 length-said-spec =
-    tie.close (tie.spec enum-known-length one-requires enum-told none-requires returns returns-2)
+    tie.close (tie.spec enum-known-length one-requires enum-known-length-2 one-requires-2 returns returns-2)

@@ -27,11 +27,11 @@ four-requires c κs = search needs
 enum-known-next-2 : tie.Need-enum-known-next-2
 enum-known-next-2 c = search needs
 
-cast-three : tie.Need-cast-three
-cast-three c = search needs
+cast-four-2 : tie.Need-cast-four-2
+cast-four-2 c = search needs
 
-three-requires : tie.Need-three-requires
-three-requires c κs = search needs
+four-requires-2 : tie.Need-four-requires-2
+four-requires-2 c κs = search needs
 
 enum-told : tie.Need-enum-told
 enum-told c = search needs
@@ -55,7 +55,7 @@ returns : tie.Need-returns
 returns c = rw (c .before .before .before .before .before .before .before .next .given .1) (record { says = said-by (ap (λ (v : ℕ). answer 0 (c .before .before .before .before .before .before .before .next .given .0 .0 .len ∷ c .before .before .before .before .before .before .before .next .given .0 .0 .iei ∷ c .before .before .before .before .before .before .before .next .given .0 .0 .place ∷ v ∷ [])) (c .before .before .before .before .before .verdict-of .ensures)) (c .four .ensures); state-is = c .before .before .before .put-state .ensures })
 
 returns-2 : tie.Need-returns-2
-returns-2 c = rw (c .before .before .before .next2 .given .1) (record { says = c .three .ensures; state-is = refl })
+returns-2 c = rw (c .before .before .before .next2 .given .1) (record { says = c .four2 .ensures; state-is = refl })
 
 returns-3 : tie.Need-returns-3
 returns-3 c = rw (c .before .before .enum-told .given .1) (record { says = c .none .ensures; state-is = refl })
@@ -76,8 +76,8 @@ next-said-spec =
     cast-four
     four-requires
     enum-known-next-2
-    cast-three
-    three-requires
+    cast-four-2
+    four-requires-2
     enum-told
     none-requires
     enum-told-2

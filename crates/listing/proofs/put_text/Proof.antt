@@ -60,7 +60,7 @@ same-length-3 c = search needs
 
 returns-3 : tie.Need-returns-3
 unfolding heading ascii
-returns-3 c = (at-text (listing-cut (c .before .before .before .before .before .before .before .before .before .before .before .before .before .before .before .before .args .octets .now) (omega arith) (sym (c .before .before .before .before .before .before .before .read-whole .ensures) ∙ c .before .before .before .before .before .start .given .1)) (joined (c .before .before .before .before .before .before .before .before .before .before .before .put .ensures) (c .before .before .put-cut .ensures)), omega (arith, c .before .before .before .before .before .before .before .before .before .before .before .put .ensures .used, c .before .before .put-cut .ensures .used, cut-short (c .before .before .before .before .before .start .given .0 .0) (c .before .before .before .before .before .start .given .0 .1 .0) (c .before .before .before .before .before .start .given .0 .1 .1 .0)))
+returns-3 c = (at-text (listing-cut (c .before .before .before .before .before .before .before .before .before .before .before .before .before .before .before .before .args .octets .now) (omega arith) (sym (c .before .before .before .before .before .before .before .read-whole .ensures) ∙ c .before .before .before .before .before .start .given .1)) (joined (c .before .before .before .before .before .before .before .before .before .before .before .put .ensures) (c .before .before .put-cut .ensures)), omega (arith, c .before .before .before .before .before .before .before .before .before .before .before .put .ensures .used, c .before .before .put-cut .ensures .used, cut-short (c .before .before .before .before .before .start .given .0 .0) (c .before .before .before .before .before .start .given .0 .1 .0) (c .before .before .before .before .before .start .given .0 .1 .1 .0) (c .before .before .before .before .before .start .given .0 .1 .1 .1 .0)))
 
 pub put-text-spec : {M : Type 1} → statement M
 put-text-spec = tie.close (tie.spec slice-aggregate-put put-requires slice-aggregate-put-2 put-requires-2 same-length returns read-whole-requires enum-told put-lines-requires put-end-requires enum-known-start put-cut-requires same-length-2 returns-2 same-length-3 returns-3)

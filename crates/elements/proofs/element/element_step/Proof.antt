@@ -73,14 +73,14 @@ add-after c =
 after-requires : tie.Need-after-requires
 after-requires c κs = search needs
 
-enum-told : tie.Need-enum-told
-enum-told c = search needs
+enum-known-came-2 : tie.Need-enum-known-came-2
+enum-known-came-2 c = search needs
 
 returns-2 : tie.Need-returns-2
 returns-2 c = rw (c .after .ensures) (rw (c .before .before .came .given .1) at (here (c .before .before .before .before)))
 
 returns-3 : tie.Need-returns-3
-returns-3 c = rw to-end (rw (c .enum-told .given .1) at (here (c .before .before)))
+returns-3 c = rw to-end (rw (c .before .came2 .given .1) at (here (c .before .before .before)))
 
 pub element-step-spec : {M : Type 1} → statement M
 element-step-spec =
@@ -100,6 +100,6 @@ element-step-spec =
     enum-known-came
     add-after
     after-requires
-    enum-told
+    enum-known-came-2
     returns-2
     returns-3)

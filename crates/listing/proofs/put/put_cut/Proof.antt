@@ -39,15 +39,15 @@ put-requires-3 c κs = omega (arith, c .before .before .before .before .before .
 put-decimal-requires-2 : tie.Need-put-decimal-requires-2
 put-decimal-requires-2 c κs = omega (arith, c .before .before .before .before .before .before .before .before .before .before .before .before .before .before .before .before .before .before .before .before .before .before .before .before .before .before .pre, c .before .before .before .before .before .before .before .before .before .before .before .before .before .before .before .before .before .before .before .before .before .before .put .ensures .used, c .before .before .before .before .before .before .before .before .before .before .before .before .before .before .before .before .before .before .put-decimal .ensures .used, decimal-short (c .before .before .before .before .before .before .before .before .before .before .before .before .before .before .before .before .before .before .before .before .before .before .before .before .before .before .args .start), c .before .before .before .before .before .before .before .before .before .before .before .before .before .put2 .ensures .used, c .before .before .before .before .before .before .before .before .put-hex .ensures .used, hex-long (c .before .before .before .before .before .before .before .before .before .iei-of .result), c .before .before .before .put3 .ensures .used)
 
-put-octet-requires : tie.Need-put-octet-requires
-put-octet-requires c κs = omega (arith, c .before .before .before .before .before .before .before .before .before .before .before .before .before .before .before .before .before .before .before .before .before .before .before .before .before .before .before .before .before .before .pre, c .before .before .before .before .before .before .before .before .before .before .before .before .before .before .before .before .before .before .before .before .before .before .before .before .before .before .put .ensures .used, c .before .before .before .before .before .before .before .before .before .before .before .before .before .before .before .before .before .before .before .before .before .before .put-decimal .ensures .used, decimal-short (c .before .before .before .before .before .before .before .before .before .before .before .before .before .before .before .before .before .before .before .before .before .before .before .before .before .before .before .before .before .before .args .start), c .before .before .before .before .before .before .before .before .before .before .before .before .before .before .before .before .before .put2 .ensures .used, c .before .before .before .before .before .before .before .before .before .before .before .before .put-hex .ensures .used, hex-long (c .before .before .before .before .before .before .before .before .before .before .before .before .before .iei-of .result), c .before .before .before .before .before .before .before .put3 .ensures .used, c .before .before .before .put-decimal2 .ensures .used, decimal-short (c .before .before .before .before .before .before .before .before .before .before .before .before .before .before .before .before .before .before .before .before .before .before .before .before .before .before .before .before .before .before .args .left))
+put-missing-requires : tie.Need-put-missing-requires
+put-missing-requires c κs = omega (arith, c .before .before .before .before .before .before .before .before .before .before .before .before .before .before .before .before .before .before .before .before .before .before .before .before .before .before .before .before .before .before .pre, c .before .before .before .before .before .before .before .before .before .before .before .before .before .before .before .before .before .before .before .before .before .before .before .before .before .before .put .ensures .used, c .before .before .before .before .before .before .before .before .before .before .before .before .before .before .before .before .before .before .before .before .before .before .put-decimal .ensures .used, decimal-short (c .before .before .before .before .before .before .before .before .before .before .before .before .before .before .before .before .before .before .before .before .before .before .before .before .before .before .before .before .before .before .args .start), c .before .before .before .before .before .before .before .before .before .before .before .before .before .before .before .before .before .put2 .ensures .used, c .before .before .before .before .before .before .before .before .before .before .before .before .put-hex .ensures .used, hex-long (c .before .before .before .before .before .before .before .before .before .before .before .before .before .iei-of .result), c .before .before .before .before .before .before .before .put3 .ensures .used, c .before .before .before .put-decimal2 .ensures .used, decimal-short (c .before .before .before .before .before .before .before .before .before .before .before .before .before .before .before .before .before .before .before .before .before .before .before .before .before .before .before .before .before .before .args .left))
 
 same-length : tie.Need-same-length
 same-length c = search needs
 
 returns : tie.Need-returns
 unfolding listed ascii
-returns c = joined (c .before .before .before .before .before .before .before .before .before .before .before .before .before .before .before .before .before .before .before .before .before .before .before .before .before .before .before .before .before .put .ensures) (joined (c .before .before .before .before .before .before .before .before .before .before .before .before .before .before .before .before .before .before .before .before .before .before .before .before .before .put-decimal .ensures) (joined (c .before .before .before .before .before .before .before .before .before .before .before .before .before .before .before .before .before .before .before .before .put2 .ensures) (joined (at-text (ap hex (c .before .before .before .before .before .before .before .before .before .before .before .before .before .before .before .before .iei-of .ensures)) (c .before .before .before .before .before .before .before .before .before .before .before .before .before .before .before .put-hex .ensures)) (joined (c .before .before .before .before .before .before .before .before .before .before .put3 .ensures) (joined (c .before .before .before .before .before .before .put-decimal2 .ensures) (c .before .before .put-octet .ensures))))))
+returns c = joined (c .before .before .before .before .before .before .before .before .before .before .before .before .before .before .before .before .before .before .before .before .before .before .before .before .before .before .before .before .before .put .ensures) (joined (c .before .before .before .before .before .before .before .before .before .before .before .before .before .before .before .before .before .before .before .before .before .before .before .before .before .put-decimal .ensures) (joined (c .before .before .before .before .before .before .before .before .before .before .before .before .before .before .before .before .before .before .before .before .put2 .ensures) (joined (at-text (ap hex (c .before .before .before .before .before .before .before .before .before .before .before .before .before .before .before .before .iei-of .ensures)) (c .before .before .before .before .before .before .before .before .before .before .before .before .before .before .before .put-hex .ensures)) (joined (c .before .before .before .before .before .before .before .before .before .before .put3 .ensures) (joined (c .before .before .before .before .before .before .put-decimal2 .ensures) (c .before .before .put-missing .ensures))))))
 
 pub put-cut-spec : {M : Type 1} → statement M
-put-cut-spec = tie.close (tie.spec slice-aggregate-put put-requires put-decimal-requires slice-aggregate-put-2 put-requires-2 iei-of-requires put-hex-requires slice-aggregate-put-3 put-requires-3 put-decimal-requires-2 put-octet-requires same-length returns)
+put-cut-spec = tie.close (tie.spec slice-aggregate-put put-requires put-decimal-requires slice-aggregate-put-2 put-requires-2 iei-of-requires put-hex-requires slice-aggregate-put-3 put-requires-3 put-decimal-requires-2 put-missing-requires same-length returns)

@@ -117,20 +117,20 @@ loop-less c = let n = next (c .before .before .before .before .before .before .b
 loop-again : tie.Need-loop-again Inv-loop μ-loop
 loop-again c = let a = c .before .before .before .before .before .before .before .before .before .before .before .before .before .before .before .before .before .before .before .before .before .before .before .before .before .before .before .before .before .args in let l = c .before .before .before .before .before .before .before .before .before .before .before .before .before .before .before .before .before .before .before .before .before .before .before .loop in moved (a .table .now) (a .index .now) (a .tlve-start) (a .option) (a .octets .now) (a .rows .now) (a .kept .now) (a .order .now) (rw (← c .after .ensures) at (filled (a .table .now) (a .index .now) (a .tlve-start) (a .option) (a .octets .now) (a .rows .now) (a .kept .now) (a .order .now) (c .before .before .before .before .before .before .before .before .before .before .before .before .before .before .before .before .before .before .before .before .before .before .before .before .before .before .before .before .before .pre) (l .state) (behind (c .before .before .before .before .before .before .before .before .before .before .before .before .before)) (element (c .before .before .before .before .before .before .before .before .before .before .before .before .before)) (l .k) (l .o) (l .rows) (l .kept) (l .order) (l .inv) (next (c .before .before .before .before .before .before .before .before .before .before .before .before .before)))) (c .before .before .before .before .before .before .before .keep .ensures .0) (c .before .before .before .note .ensures .0) (c .before .before .before .before .before .before .before .before .before .before .before .enter-row .ensures) (c .before .before .before .before .before .before .before .keep .ensures .1) (c .before .before .before .note .ensures .1)
 
-enum-told : tie.Need-enum-told Inv-loop μ-loop
-enum-told c = search needs
+enum-known-came-2 : tie.Need-enum-known-came-2 Inv-loop μ-loop
+enum-known-came-2 c = search needs
 
 same-length-4 : tie.Need-same-length-4 Inv-loop μ-loop
-same-length-4 c = c .before .before .before .before .before .before .before .before .before .loop .inv .rows-long
+same-length-4 c = c .before .before .before .before .before .before .before .before .before .before .loop .inv .rows-long
 
 same-length-5 : tie.Need-same-length-5 Inv-loop μ-loop
-same-length-5 c = c .before .before .before .before .before .before .before .before .before .loop .inv .kept-long
+same-length-5 c = c .before .before .before .before .before .before .before .before .before .before .loop .inv .kept-long
 
 same-length-6 : tie.Need-same-length-6 Inv-loop μ-loop
-same-length-6 c = c .before .before .before .before .before .before .before .before .before .loop .inv .order-long
+same-length-6 c = c .before .before .before .before .before .before .before .before .before .before .loop .inv .order-long
 
 returns-2 : tie.Need-returns-2 Inv-loop μ-loop
-returns-2 c = let a = c .before .before .before .before .before .before .before .before .before .before .before .before .before .before .before .args in let l = c .before .before .before .before .before .before .before .before .before .loop in cut-there (a .table .now) (a .index .now) (a .tlve-start) (a .option) (a .octets .now) (a .rows .now) (a .kept .now) (a .order .now) (l .state) (l .k) (l .o) (l .rows) (l .kept) (l .order) (l .inv) (cuts (rowsOf (a .table .now)) (a .tlve-start) (a .option) (a .octets .now) (l .state) (omega (arith, l .inv .left-is)) (rw to-end (rw (c .enum-told .given .1) at (here (c .before .before)))))
+returns-2 c = let a = c .before .before .before .before .before .before .before .before .before .before .before .before .before .before .before .before .args in let l = c .before .before .before .before .before .before .before .before .before .before .loop in cut-there (a .table .now) (a .index .now) (a .tlve-start) (a .option) (a .octets .now) (a .rows .now) (a .kept .now) (a .order .now) (l .state) (l .k) (l .o) (l .rows) (l .kept) (l .order) (l .inv) (cuts (rowsOf (a .table .now)) (a .tlve-start) (a .option) (a .octets .now) (l .state) (omega (arith, l .inv .left-is)) (rw to-end (rw (c .before .came2 .given .1) at (here (c .before .before .before)))))
 
 pub fill-elements-spec : {M : Type 1} → statement M
 fill-elements-spec =
@@ -161,7 +161,7 @@ fill-elements-spec =
     after-requires
     loop-less
     loop-again
-    enum-told
+    enum-known-came-2
     same-length-4
     same-length-5
     same-length-6

@@ -106,11 +106,11 @@ loop-less c = let k = stepped (c .before) in rw (c .after .ensures) (omega (arit
 loop-again : tie.Need-loop-again Inv-loop μ-loop
 loop-again c = rw (c .before .with-element .ensures, c .after .ensures) (stepped (c .before) .0)
 
-enum-told : tie.Need-enum-told Inv-loop μ-loop
-enum-told c = search needs
+enum-known-came-2 : tie.Need-enum-known-came-2 Inv-loop μ-loop
+enum-known-came-2 c = search needs
 
 returns-2 : tie.Need-returns-2 Inv-loop μ-loop
-returns-2 c = let a = c .before .before .before .before .before .before .before .before .before .before .before .before .args in let l = c .before .before .before .before .before .before .before .before .before .loop in ap (measuredFrom (l .t)) (sym (cuts (rowsOf (a .table .now)) (a .tlve-start) (a .option) (a .part .now) (l .state) (l .inv .within) (rw to-end (rw (c .enum-told .given .1) at (here (c .before .before)))))) ∙ l .inv .tells
+returns-2 c = let a = c .before .before .before .before .before .before .before .before .before .before .before .before .before .args in let l = c .before .before .before .before .before .before .before .before .before .before .loop in ap (measuredFrom (l .t)) (sym (cuts (rowsOf (a .table .now)) (a .tlve-start) (a .option) (a .part .now) (l .state) (l .inv .within) (rw to-end (rw (c .before .came2 .given .1) at (here (c .before .before .before)))))) ∙ l .inv .tells
 
 pub measure-spec : {M : Type 1} → statement M
 measure-spec =
@@ -136,5 +136,5 @@ measure-spec =
     after-requires
     loop-less
     loop-again
-    enum-told
+    enum-known-came-2
     returns-2)
