@@ -7,20 +7,20 @@ use crate::short::MOST_ROWS;
 use crate::short::MOST_SHORT;
 use crate::short::decode_short;
 use octets::MOST_OCTETS;
-use real::INDEX_P;
-use real::INDEX_PDU_SESSION_ESTABLISHMENT_ACCEPT;
-use real::INDEX_PDU_SESSION_ESTABLISHMENT_REQUEST;
-use real::INDEX_REGISTRATION_ACCEPT;
-use real::INDEX_REGISTRATION_REJECT;
-use real::INDEX_REGISTRATION_REQUEST;
-use real::INDEX_SERVICE_REQUEST;
-use real::PDU_SESSION_ESTABLISHMENT_ACCEPT;
-use real::PDU_SESSION_ESTABLISHMENT_REQUEST;
-use real::REGISTRATION_ACCEPT;
-use real::REGISTRATION_REJECT;
-use real::REGISTRATION_REQUEST;
-use real::SERVICE_REQUEST;
-use real::TABLE_P;
+use real::index_p;
+use real::index_pdu_session_establishment_accept;
+use real::index_pdu_session_establishment_request;
+use real::index_registration_accept;
+use real::index_registration_reject;
+use real::index_registration_request;
+use real::index_service_request;
+use real::pdu_session_establishment_accept;
+use real::pdu_session_establishment_request;
+use real::registration_accept;
+use real::registration_reject;
+use real::registration_request;
+use real::service_request;
+use real::table_p;
 use rows::check::Checked;
 use rows::check::check_and_index;
 use rows::columns::places;
@@ -195,10 +195,12 @@ fn decode_p(
 ) -> Decoded
     ensures { λ r. ⌜ Reads (reading (realOf 0) 112 option (now (octets .entry)) (lentOf (now (rows .entry)) (now (kept .entry)) (now (order .entry)))) r (now (rows .exit)) (now (kept .exit)) (now (order .exit)) ⌝ }
 {
+    let table = table_p();
+    let index = index_p();
     decode_by_index(
         octets,
-        &TABLE_P,
-        &INDEX_P,
+        &table,
+        &index,
         TLVE_START,
         option,
         rows,
@@ -216,10 +218,12 @@ fn decode_registration_request(
 ) -> Decoded
     ensures { λ r. ⌜ Reads (reading (realOf 1) 112 option (now (octets .entry)) (lentOf (now (rows .entry)) (now (kept .entry)) (now (order .entry)))) r (now (rows .exit)) (now (kept .exit)) (now (order .exit)) ⌝ }
 {
+    let table = registration_request();
+    let index = index_registration_request();
     decode_by_index(
         octets,
-        &REGISTRATION_REQUEST,
-        &INDEX_REGISTRATION_REQUEST,
+        &table,
+        &index,
         TLVE_START,
         option,
         rows,
@@ -237,10 +241,12 @@ fn decode_registration_accept(
 ) -> Decoded
     ensures { λ r. ⌜ Reads (reading (realOf 2) 112 option (now (octets .entry)) (lentOf (now (rows .entry)) (now (kept .entry)) (now (order .entry)))) r (now (rows .exit)) (now (kept .exit)) (now (order .exit)) ⌝ }
 {
+    let table = registration_accept();
+    let index = index_registration_accept();
     decode_by_index(
         octets,
-        &REGISTRATION_ACCEPT,
-        &INDEX_REGISTRATION_ACCEPT,
+        &table,
+        &index,
         TLVE_START,
         option,
         rows,
@@ -258,10 +264,12 @@ fn decode_registration_reject(
 ) -> Decoded
     ensures { λ r. ⌜ Reads (reading (realOf 3) 112 option (now (octets .entry)) (lentOf (now (rows .entry)) (now (kept .entry)) (now (order .entry)))) r (now (rows .exit)) (now (kept .exit)) (now (order .exit)) ⌝ }
 {
+    let table = registration_reject();
+    let index = index_registration_reject();
     decode_by_index(
         octets,
-        &REGISTRATION_REJECT,
-        &INDEX_REGISTRATION_REJECT,
+        &table,
+        &index,
         TLVE_START,
         option,
         rows,
@@ -279,10 +287,12 @@ fn decode_service_request(
 ) -> Decoded
     ensures { λ r. ⌜ Reads (reading (realOf 4) 112 option (now (octets .entry)) (lentOf (now (rows .entry)) (now (kept .entry)) (now (order .entry)))) r (now (rows .exit)) (now (kept .exit)) (now (order .exit)) ⌝ }
 {
+    let table = service_request();
+    let index = index_service_request();
     decode_by_index(
         octets,
-        &SERVICE_REQUEST,
-        &INDEX_SERVICE_REQUEST,
+        &table,
+        &index,
         TLVE_START,
         option,
         rows,
@@ -300,10 +310,12 @@ fn decode_pdu_session_establishment_request(
 ) -> Decoded
     ensures { λ r. ⌜ Reads (reading (realOf 5) 112 option (now (octets .entry)) (lentOf (now (rows .entry)) (now (kept .entry)) (now (order .entry)))) r (now (rows .exit)) (now (kept .exit)) (now (order .exit)) ⌝ }
 {
+    let table = pdu_session_establishment_request();
+    let index = index_pdu_session_establishment_request();
     decode_by_index(
         octets,
-        &PDU_SESSION_ESTABLISHMENT_REQUEST,
-        &INDEX_PDU_SESSION_ESTABLISHMENT_REQUEST,
+        &table,
+        &index,
         TLVE_START,
         option,
         rows,
@@ -321,10 +333,12 @@ fn decode_pdu_session_establishment_accept(
 ) -> Decoded
     ensures { λ r. ⌜ Reads (reading (realOf 6) 112 option (now (octets .entry)) (lentOf (now (rows .entry)) (now (kept .entry)) (now (order .entry)))) r (now (rows .exit)) (now (kept .exit)) (now (order .exit)) ⌝ }
 {
+    let table = pdu_session_establishment_accept();
+    let index = index_pdu_session_establishment_accept();
     decode_by_index(
         octets,
-        &PDU_SESSION_ESTABLISHMENT_ACCEPT,
-        &INDEX_PDU_SESSION_ESTABLISHMENT_ACCEPT,
+        &table,
+        &index,
         TLVE_START,
         option,
         rows,

@@ -6,7 +6,7 @@ use rows::check::check_table;
 use rows::index::Place;
 use rows::index::place_of;
 ghost use mathlib.Core.Path.{_≡_};
-ghost use Rattle.definitions.specs.Rows.{rowsOf, firstBad, placeOf};
+ghost use Rattle.definitions.specs.Rows.{rowsOf, firstBad, placeOf, index};
 ghost use Rattle.definitions.specs.Mandatory.{mandatoryRowsOf, firstBadMandatory};
 ghost use Rattle.rows.specs.Answers.{checkedAs, placeAs};
 ghost use Rattle.real.specs.Real.{realOf, realMandatoryOf};
@@ -3256,4 +3256,90 @@ pub fn place_real(number: usize, iei: u8) -> Place
         6 => place_of(&INDEX_PDU_SESSION_ESTABLISHMENT_ACCEPT, iei),
         _ => Place::Nowhere,
     }
+}
+
+// ---- by name: each table and its index as a value, told by the definitions, so that a caller need not look at its numbers
+
+pub fn table_p() -> [u32; 45]
+    ensures { λ r. ⌜ r ≡ realOf 0 ⌝ }
+{
+    TABLE_P
+}
+
+pub fn index_p() -> [u8; 256]
+    ensures { λ r. ⌜ r ≡ index (rowsOf (realOf 0)) ⌝ }
+{
+    INDEX_P
+}
+
+pub fn registration_request() -> [u32; 288]
+    ensures { λ r. ⌜ r ≡ realOf 1 ⌝ }
+{
+    REGISTRATION_REQUEST
+}
+
+pub fn index_registration_request() -> [u8; 256]
+    ensures { λ r. ⌜ r ≡ index (rowsOf (realOf 1)) ⌝ }
+{
+    INDEX_REGISTRATION_REQUEST
+}
+
+pub fn registration_accept() -> [u32; 351]
+    ensures { λ r. ⌜ r ≡ realOf 2 ⌝ }
+{
+    REGISTRATION_ACCEPT
+}
+
+pub fn index_registration_accept() -> [u8; 256]
+    ensures { λ r. ⌜ r ≡ index (rowsOf (realOf 2)) ⌝ }
+{
+    INDEX_REGISTRATION_ACCEPT
+}
+
+pub fn registration_reject() -> [u32; 54]
+    ensures { λ r. ⌜ r ≡ realOf 3 ⌝ }
+{
+    REGISTRATION_REJECT
+}
+
+pub fn index_registration_reject() -> [u8; 256]
+    ensures { λ r. ⌜ r ≡ index (rowsOf (realOf 3)) ⌝ }
+{
+    INDEX_REGISTRATION_REJECT
+}
+
+pub fn service_request() -> [u32; 36]
+    ensures { λ r. ⌜ r ≡ realOf 4 ⌝ }
+{
+    SERVICE_REQUEST
+}
+
+pub fn index_service_request() -> [u8; 256]
+    ensures { λ r. ⌜ r ≡ index (rowsOf (realOf 4)) ⌝ }
+{
+    INDEX_SERVICE_REQUEST
+}
+
+pub fn pdu_session_establishment_request() -> [u32; 117]
+    ensures { λ r. ⌜ r ≡ realOf 5 ⌝ }
+{
+    PDU_SESSION_ESTABLISHMENT_REQUEST
+}
+
+pub fn index_pdu_session_establishment_request() -> [u8; 256]
+    ensures { λ r. ⌜ r ≡ index (rowsOf (realOf 5)) ⌝ }
+{
+    INDEX_PDU_SESSION_ESTABLISHMENT_REQUEST
+}
+
+pub fn pdu_session_establishment_accept() -> [u32; 144]
+    ensures { λ r. ⌜ r ≡ realOf 6 ⌝ }
+{
+    PDU_SESSION_ESTABLISHMENT_ACCEPT
+}
+
+pub fn index_pdu_session_establishment_accept() -> [u8; 256]
+    ensures { λ r. ⌜ r ≡ index (rowsOf (realOf 6)) ⌝ }
+{
+    INDEX_PDU_SESSION_ESTABLISHMENT_ACCEPT
 }

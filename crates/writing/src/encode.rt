@@ -8,20 +8,20 @@ use kept::too_long;
 use logs::Logs;
 use logs::check_logs;
 use octets::MOST_OCTETS;
-use real::INDEX_P;
-use real::INDEX_PDU_SESSION_ESTABLISHMENT_ACCEPT;
-use real::INDEX_PDU_SESSION_ESTABLISHMENT_REQUEST;
-use real::INDEX_REGISTRATION_ACCEPT;
-use real::INDEX_REGISTRATION_REJECT;
-use real::INDEX_REGISTRATION_REQUEST;
-use real::INDEX_SERVICE_REQUEST;
-use real::PDU_SESSION_ESTABLISHMENT_ACCEPT;
-use real::PDU_SESSION_ESTABLISHMENT_REQUEST;
-use real::REGISTRATION_ACCEPT;
-use real::REGISTRATION_REJECT;
-use real::REGISTRATION_REQUEST;
-use real::SERVICE_REQUEST;
-use real::TABLE_P;
+use real::index_p;
+use real::index_pdu_session_establishment_accept;
+use real::index_pdu_session_establishment_request;
+use real::index_registration_accept;
+use real::index_registration_reject;
+use real::index_registration_request;
+use real::index_service_request;
+use real::pdu_session_establishment_accept;
+use real::pdu_session_establishment_request;
+use real::registration_accept;
+use real::registration_reject;
+use real::registration_request;
+use real::service_request;
+use real::table_p;
 use rows::check::Checked;
 use rows::check::check_and_index;
 use rows::columns::places;
@@ -209,9 +209,11 @@ fn encode_p<'a>(
 ) -> Encoded
     ensures { λ r. ⌜ Encodes (writing (realOf 0) (now (rows .entry)) (now (received .entry)) (usedOf (now (set .entry)) «set_used») (usedOf (now (order .entry)) «order_used») (usedOf (now (kept .entry)) «kept_used») (now (output .entry))) r (now (output .exit)) ⌝ }
 {
+    let table = table_p();
+    let index = index_p();
     encode_by_index(
-        &TABLE_P,
-        &INDEX_P,
+        &table,
+        &index,
         rows,
         received,
         set,
@@ -237,9 +239,11 @@ fn encode_registration_request<'a>(
 ) -> Encoded
     ensures { λ r. ⌜ Encodes (writing (realOf 1) (now (rows .entry)) (now (received .entry)) (usedOf (now (set .entry)) «set_used») (usedOf (now (order .entry)) «order_used») (usedOf (now (kept .entry)) «kept_used») (now (output .entry))) r (now (output .exit)) ⌝ }
 {
+    let table = registration_request();
+    let index = index_registration_request();
     encode_by_index(
-        &REGISTRATION_REQUEST,
-        &INDEX_REGISTRATION_REQUEST,
+        &table,
+        &index,
         rows,
         received,
         set,
@@ -265,9 +269,11 @@ fn encode_registration_accept<'a>(
 ) -> Encoded
     ensures { λ r. ⌜ Encodes (writing (realOf 2) (now (rows .entry)) (now (received .entry)) (usedOf (now (set .entry)) «set_used») (usedOf (now (order .entry)) «order_used») (usedOf (now (kept .entry)) «kept_used») (now (output .entry))) r (now (output .exit)) ⌝ }
 {
+    let table = registration_accept();
+    let index = index_registration_accept();
     encode_by_index(
-        &REGISTRATION_ACCEPT,
-        &INDEX_REGISTRATION_ACCEPT,
+        &table,
+        &index,
         rows,
         received,
         set,
@@ -293,9 +299,11 @@ fn encode_registration_reject<'a>(
 ) -> Encoded
     ensures { λ r. ⌜ Encodes (writing (realOf 3) (now (rows .entry)) (now (received .entry)) (usedOf (now (set .entry)) «set_used») (usedOf (now (order .entry)) «order_used») (usedOf (now (kept .entry)) «kept_used») (now (output .entry))) r (now (output .exit)) ⌝ }
 {
+    let table = registration_reject();
+    let index = index_registration_reject();
     encode_by_index(
-        &REGISTRATION_REJECT,
-        &INDEX_REGISTRATION_REJECT,
+        &table,
+        &index,
         rows,
         received,
         set,
@@ -321,9 +329,11 @@ fn encode_service_request<'a>(
 ) -> Encoded
     ensures { λ r. ⌜ Encodes (writing (realOf 4) (now (rows .entry)) (now (received .entry)) (usedOf (now (set .entry)) «set_used») (usedOf (now (order .entry)) «order_used») (usedOf (now (kept .entry)) «kept_used») (now (output .entry))) r (now (output .exit)) ⌝ }
 {
+    let table = service_request();
+    let index = index_service_request();
     encode_by_index(
-        &SERVICE_REQUEST,
-        &INDEX_SERVICE_REQUEST,
+        &table,
+        &index,
         rows,
         received,
         set,
@@ -349,9 +359,11 @@ fn encode_pdu_session_establishment_request<'a>(
 ) -> Encoded
     ensures { λ r. ⌜ Encodes (writing (realOf 5) (now (rows .entry)) (now (received .entry)) (usedOf (now (set .entry)) «set_used») (usedOf (now (order .entry)) «order_used») (usedOf (now (kept .entry)) «kept_used») (now (output .entry))) r (now (output .exit)) ⌝ }
 {
+    let table = pdu_session_establishment_request();
+    let index = index_pdu_session_establishment_request();
     encode_by_index(
-        &PDU_SESSION_ESTABLISHMENT_REQUEST,
-        &INDEX_PDU_SESSION_ESTABLISHMENT_REQUEST,
+        &table,
+        &index,
         rows,
         received,
         set,
@@ -377,9 +389,11 @@ fn encode_pdu_session_establishment_accept<'a>(
 ) -> Encoded
     ensures { λ r. ⌜ Encodes (writing (realOf 6) (now (rows .entry)) (now (received .entry)) (usedOf (now (set .entry)) «set_used») (usedOf (now (order .entry)) «order_used») (usedOf (now (kept .entry)) «kept_used») (now (output .entry))) r (now (output .exit)) ⌝ }
 {
+    let table = pdu_session_establishment_accept();
+    let index = index_pdu_session_establishment_accept();
     encode_by_index(
-        &PDU_SESSION_ESTABLISHMENT_ACCEPT,
-        &INDEX_PDU_SESSION_ESTABLISHMENT_ACCEPT,
+        &table,
+        &index,
         rows,
         received,
         set,

@@ -1,8 +1,5 @@
--- `decode_pdu_session_establishment_accept` lends its constant table and index to `decode_by_index`.
--- That the table passes, and that the index is its own, is the rule of the constants.
-use Rattle.definitions.specs.Basic.{concat}
-use Rattle.definitions.specs.Tables.{tableOf, row, optional6}
-use Rattle.real.specs.Real.{realOf, realIndexOf, index6}
+-- `decode_pdu_session_establishment_accept` lends the table and its index to `decode_by_index`.
+-- That the table passes is the rule of the constants.
 use Rattle.real.proofs.RealLaws.{real}
 use Rattle.rows.proofs.Indexed.{indexed}
 use borrow.Author.Needs.{needs}
@@ -11,12 +8,18 @@ use Rattle.reading.proofs.decode.decode_pdu_session_establishment_accep
 }
 use Rattle.reading.proofs.decode.decode_pdu_session_establishment_accept.Tie as tie
 
+pdu-session-establishment-accept-requires : tie.Need-pdu-session-establishment-accept-requires
+pdu-session-establishment-accept-requires c κs = search needs
+
+index-pdu-session-establishment-accept-requires :
+    tie.Need-index-pdu-session-establishment-accept-requires
+index-pdu-session-establishment-accept-requires c κs = search needs
+
 slice-aggregate-decode-by-index : tie.Need-slice-aggregate-decode-by-index
 slice-aggregate-decode-by-index c = search needs
 
 decode-by-index-requires : tie.Need-decode-by-index-requires
-unfolding tableOf realIndexOf concat row optional6 index6
-decode-by-index-requires c κs = (indexed (realOf 6) (realIndexOf 6) (real 6 .passes) (real 6 .entries), real 6 .passes)
+decode-by-index-requires c κs = (indexed _ _ (rw (c .before .before .before .before .before .before .pdu-session-establishment-accept .ensures) (real 6 .passes)) (rw (c .before .before .before .before .before .before .pdu-session-establishment-accept .ensures) (c .before .before .before .before .before .index-pdu-session-establishment-accept .ensures)), rw (c .before .before .before .before .before .before .pdu-session-establishment-accept .ensures) (real 6 .passes))
 
 same-length : tie.Need-same-length
 same-length c = search needs
@@ -28,13 +31,14 @@ same-length-3 : tie.Need-same-length-3
 same-length-3 c = search needs
 
 returns : tie.Need-returns
-unfolding tableOf concat row optional6
-returns c = c .before .before .before .before .before .before .decode-by-index .ensures
+returns c = rw (c .before .before .before .before .before .before .before .before .before .before .before .before .before .pdu-session-establishment-accept .ensures) at (c .before .before .before .before .before .before .decode-by-index .ensures)
 
 pub decode-pdu-session-establishment-accept-spec : {M : Type 1} → statement M
 decode-pdu-session-establishment-accept-spec =
     tie.close
     (tie.spec
+    pdu-session-establishment-accept-requires
+    index-pdu-session-establishment-accept-requires
     slice-aggregate-decode-by-index
     decode-by-index-requires
     same-length

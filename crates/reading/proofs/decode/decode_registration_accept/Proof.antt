@@ -1,20 +1,22 @@
--- `decode_registration_accept` lends its constant table and index to `decode_by_index`.
--- That the table passes, and that the index is its own, is the rule of the constants.
-use Rattle.definitions.specs.Basic.{concat}
-use Rattle.definitions.specs.Tables.{tableOf, row, optional2}
-use Rattle.real.specs.Real.{realOf, realIndexOf, index2}
+-- `decode_registration_accept` lends the table and its index to `decode_by_index`.
+-- That the table passes is the rule of the constants.
 use Rattle.real.proofs.RealLaws.{real}
 use Rattle.rows.proofs.Indexed.{indexed}
 use borrow.Author.Needs.{needs}
 use Rattle.reading.proofs.decode.decode_registration_accept.Statement.{statement}
 use Rattle.reading.proofs.decode.decode_registration_accept.Tie as tie
 
+registration-accept-requires : tie.Need-registration-accept-requires
+registration-accept-requires c κs = search needs
+
+index-registration-accept-requires : tie.Need-index-registration-accept-requires
+index-registration-accept-requires c κs = search needs
+
 slice-aggregate-decode-by-index : tie.Need-slice-aggregate-decode-by-index
 slice-aggregate-decode-by-index c = search needs
 
 decode-by-index-requires : tie.Need-decode-by-index-requires
-unfolding tableOf realIndexOf concat row optional2 index2
-decode-by-index-requires c κs = (indexed (realOf 2) (realIndexOf 2) (real 2 .passes) (real 2 .entries), real 2 .passes)
+decode-by-index-requires c κs = (indexed _ _ (rw (c .before .before .before .before .before .before .registration-accept .ensures) (real 2 .passes)) (rw (c .before .before .before .before .before .before .registration-accept .ensures) (c .before .before .before .before .before .index-registration-accept .ensures)), rw (c .before .before .before .before .before .before .registration-accept .ensures) (real 2 .passes))
 
 same-length : tie.Need-same-length
 same-length c = search needs
@@ -26,13 +28,14 @@ same-length-3 : tie.Need-same-length-3
 same-length-3 c = search needs
 
 returns : tie.Need-returns
-unfolding tableOf concat row optional2
-returns c = c .before .before .before .before .before .before .decode-by-index .ensures
+returns c = rw (c .before .before .before .before .before .before .before .before .before .before .before .before .before .registration-accept .ensures) at (c .before .before .before .before .before .before .decode-by-index .ensures)
 
 pub decode-registration-accept-spec : {M : Type 1} → statement M
 decode-registration-accept-spec =
     tie.close
     (tie.spec
+    registration-accept-requires
+    index-registration-accept-requires
     slice-aggregate-decode-by-index
     decode-by-index-requires
     same-length

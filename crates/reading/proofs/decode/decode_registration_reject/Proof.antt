@@ -1,20 +1,22 @@
--- `decode_registration_reject` lends its constant table and index to `decode_by_index`.
--- That the table passes, and that the index is its own, is the rule of the constants.
-use Rattle.definitions.specs.Basic.{concat}
-use Rattle.definitions.specs.Tables.{tableOf, row, optional3}
-use Rattle.real.specs.Real.{realOf, realIndexOf, index3}
+-- `decode_registration_reject` lends the table and its index to `decode_by_index`.
+-- That the table passes is the rule of the constants.
 use Rattle.real.proofs.RealLaws.{real}
 use Rattle.rows.proofs.Indexed.{indexed}
 use borrow.Author.Needs.{needs}
 use Rattle.reading.proofs.decode.decode_registration_reject.Statement.{statement}
 use Rattle.reading.proofs.decode.decode_registration_reject.Tie as tie
 
+registration-reject-requires : tie.Need-registration-reject-requires
+registration-reject-requires c κs = search needs
+
+index-registration-reject-requires : tie.Need-index-registration-reject-requires
+index-registration-reject-requires c κs = search needs
+
 slice-aggregate-decode-by-index : tie.Need-slice-aggregate-decode-by-index
 slice-aggregate-decode-by-index c = search needs
 
 decode-by-index-requires : tie.Need-decode-by-index-requires
-unfolding tableOf realIndexOf concat row optional3 index3
-decode-by-index-requires c κs = (indexed (realOf 3) (realIndexOf 3) (real 3 .passes) (real 3 .entries), real 3 .passes)
+decode-by-index-requires c κs = (indexed _ _ (rw (c .before .before .before .before .before .before .registration-reject .ensures) (real 3 .passes)) (rw (c .before .before .before .before .before .before .registration-reject .ensures) (c .before .before .before .before .before .index-registration-reject .ensures)), rw (c .before .before .before .before .before .before .registration-reject .ensures) (real 3 .passes))
 
 same-length : tie.Need-same-length
 same-length c = search needs
@@ -26,13 +28,14 @@ same-length-3 : tie.Need-same-length-3
 same-length-3 c = search needs
 
 returns : tie.Need-returns
-unfolding tableOf concat row optional3
-returns c = c .before .before .before .before .before .before .decode-by-index .ensures
+returns c = rw (c .before .before .before .before .before .before .before .before .before .before .before .before .before .registration-reject .ensures) at (c .before .before .before .before .before .before .decode-by-index .ensures)
 
 pub decode-registration-reject-spec : {M : Type 1} → statement M
 decode-registration-reject-spec =
     tie.close
     (tie.spec
+    registration-reject-requires
+    index-registration-reject-requires
     slice-aggregate-decode-by-index
     decode-by-index-requires
     same-length

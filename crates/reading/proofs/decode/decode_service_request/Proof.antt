@@ -1,20 +1,22 @@
--- `decode_service_request` lends its constant table and index to `decode_by_index`.
--- That the table passes, and that the index is its own, is the rule of the constants.
-use Rattle.definitions.specs.Basic.{concat}
-use Rattle.definitions.specs.Tables.{tableOf, row, optional4}
-use Rattle.real.specs.Real.{realOf, realIndexOf, index4}
+-- `decode_service_request` lends the table and its index to `decode_by_index`.
+-- That the table passes is the rule of the constants.
 use Rattle.real.proofs.RealLaws.{real}
 use Rattle.rows.proofs.Indexed.{indexed}
 use borrow.Author.Needs.{needs}
 use Rattle.reading.proofs.decode.decode_service_request.Statement.{statement}
 use Rattle.reading.proofs.decode.decode_service_request.Tie as tie
 
+service-request-requires : tie.Need-service-request-requires
+service-request-requires c κs = search needs
+
+index-service-request-requires : tie.Need-index-service-request-requires
+index-service-request-requires c κs = search needs
+
 slice-aggregate-decode-by-index : tie.Need-slice-aggregate-decode-by-index
 slice-aggregate-decode-by-index c = search needs
 
 decode-by-index-requires : tie.Need-decode-by-index-requires
-unfolding tableOf realIndexOf concat row optional4 index4
-decode-by-index-requires c κs = (indexed (realOf 4) (realIndexOf 4) (real 4 .passes) (real 4 .entries), real 4 .passes)
+decode-by-index-requires c κs = (indexed _ _ (rw (c .before .before .before .before .before .before .service-request .ensures) (real 4 .passes)) (rw (c .before .before .before .before .before .before .service-request .ensures) (c .before .before .before .before .before .index-service-request .ensures)), rw (c .before .before .before .before .before .before .service-request .ensures) (real 4 .passes))
 
 same-length : tie.Need-same-length
 same-length c = search needs
@@ -26,13 +28,14 @@ same-length-3 : tie.Need-same-length-3
 same-length-3 c = search needs
 
 returns : tie.Need-returns
-unfolding tableOf concat row optional4
-returns c = c .before .before .before .before .before .before .decode-by-index .ensures
+returns c = rw (c .before .before .before .before .before .before .before .before .before .before .before .before .before .service-request .ensures) at (c .before .before .before .before .before .before .decode-by-index .ensures)
 
 pub decode-service-request-spec : {M : Type 1} → statement M
 decode-service-request-spec =
     tie.close
     (tie.spec
+    service-request-requires
+    index-service-request-requires
     slice-aggregate-decode-by-index
     decode-by-index-requires
     same-length

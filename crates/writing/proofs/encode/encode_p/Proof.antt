@@ -1,12 +1,15 @@
--- `encode_p` lends its constant table and index to `encode_by_index`.
--- That the table passes, and that the index is its own, is the rule of the constants.
-use Rattle.definitions.specs.Basic.{concat}
-use Rattle.definitions.specs.Tables.{tableOf, row, tableP}
-use Rattle.real.specs.Real.{realIndexOf, index0}
+-- `encode_p` lends the table and its index to `encode_by_index`.
+-- That the table passes is the rule of the constants.
 use Rattle.real.proofs.RealLaws.{real}
 use borrow.Author.Needs.{needs}
 use Rattle.writing.proofs.encode.encode_p.Statement.{statement}
 use Rattle.writing.proofs.encode.encode_p.Tie as tie
+
+table-p-requires : tie.Need-table-p-requires
+table-p-requires c κs = search needs
+
+index-p-requires : tie.Need-index-p-requires
+index-p-requires c κs = search needs
 
 slice-aggregate-encode-by-index : tie.Need-slice-aggregate-encode-by-index
 slice-aggregate-encode-by-index c = search needs
@@ -15,20 +18,20 @@ slice-aggregate-encode-by-index-2 : tie.Need-slice-aggregate-encode-by-index-2
 slice-aggregate-encode-by-index-2 c = search needs
 
 encode-by-index-requires : tie.Need-encode-by-index-requires
-unfolding tableOf realIndexOf concat row tableP index0
-encode-by-index-requires c κs = (real 0 .passes, real 0 .entries)
+encode-by-index-requires c κs = (rw (c .before .before .before .before .table-p .ensures) (real 0 .passes), rw (c .before .before .before .before .table-p .ensures) (c .before .before .before .index-p .ensures))
 
 same-length : tie.Need-same-length
 same-length c = search needs
 
 returns : tie.Need-returns
-unfolding tableOf concat row tableP
-returns c = c .before .before .encode-by-index .ensures
+returns c = rw (c .before .before .before .before .before .before .before .table-p .ensures) at (c .before .before .encode-by-index .ensures)
 
 pub encode-p-spec : {M : Type 1} → statement M
 encode-p-spec =
     tie.close
     (tie.spec
+    table-p-requires
+    index-p-requires
     slice-aggregate-encode-by-index
     slice-aggregate-encode-by-index-2
     encode-by-index-requires

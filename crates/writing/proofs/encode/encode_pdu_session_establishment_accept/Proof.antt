@@ -1,12 +1,15 @@
--- `encode_pdu_session_establishment_accept` lends its constant table and index to `encode_by_index`.
--- That the table passes, and that the index is its own, is the rule of the constants.
-use Rattle.definitions.specs.Basic.{concat}
-use Rattle.definitions.specs.Tables.{tableOf, row, optional6}
-use Rattle.real.specs.Real.{realIndexOf, index6}
+-- `encode_pdu_session_establishment_accept` lends the table and its index to `encode_by_index`.
+-- That the table passes is the rule of the constants.
 use Rattle.real.proofs.RealLaws.{real}
 use borrow.Author.Needs.{needs}
 use Rattle.writing.proofs.encode.encode_pdu_session_establishment_accept.Statement.{statement}
 use Rattle.writing.proofs.encode.encode_pdu_session_establishment_accept.Tie as tie
+
+pdu-session-establishment-accept-requires : tie.Need-pdu-session-establishment-accept-requires
+pdu-session-establishment-accept-requires c κs = search needs
+
+index-pdu-session-establishment-accept-requires : tie.Need-index-pdu-session-establishment-accept-requires
+index-pdu-session-establishment-accept-requires c κs = search needs
 
 slice-aggregate-encode-by-index : tie.Need-slice-aggregate-encode-by-index
 slice-aggregate-encode-by-index c = search needs
@@ -15,20 +18,20 @@ slice-aggregate-encode-by-index-2 : tie.Need-slice-aggregate-encode-by-index-2
 slice-aggregate-encode-by-index-2 c = search needs
 
 encode-by-index-requires : tie.Need-encode-by-index-requires
-unfolding tableOf realIndexOf concat row optional6 index6
-encode-by-index-requires c κs = (real 6 .passes, real 6 .entries)
+encode-by-index-requires c κs = (rw (c .before .before .before .before .pdu-session-establishment-accept .ensures) (real 6 .passes), rw (c .before .before .before .before .pdu-session-establishment-accept .ensures) (c .before .before .before .index-pdu-session-establishment-accept .ensures))
 
 same-length : tie.Need-same-length
 same-length c = search needs
 
 returns : tie.Need-returns
-unfolding tableOf concat row optional6
-returns c = c .before .before .encode-by-index .ensures
+returns c = rw (c .before .before .before .before .before .before .before .pdu-session-establishment-accept .ensures) at (c .before .before .encode-by-index .ensures)
 
 pub encode-pdu-session-establishment-accept-spec : {M : Type 1} → statement M
 encode-pdu-session-establishment-accept-spec =
     tie.close
     (tie.spec
+    pdu-session-establishment-accept-requires
+    index-pdu-session-establishment-accept-requires
     slice-aggregate-encode-by-index
     slice-aggregate-encode-by-index-2
     encode-by-index-requires

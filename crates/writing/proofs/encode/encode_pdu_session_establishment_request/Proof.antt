@@ -1,12 +1,15 @@
--- `encode_pdu_session_establishment_request` lends its constant table and index to `encode_by_index`.
--- That the table passes, and that the index is its own, is the rule of the constants.
-use Rattle.definitions.specs.Basic.{concat}
-use Rattle.definitions.specs.Tables.{tableOf, row, optional5}
-use Rattle.real.specs.Real.{realIndexOf, index5}
+-- `encode_pdu_session_establishment_request` lends the table and its index to `encode_by_index`.
+-- That the table passes is the rule of the constants.
 use Rattle.real.proofs.RealLaws.{real}
 use borrow.Author.Needs.{needs}
 use Rattle.writing.proofs.encode.encode_pdu_session_establishment_request.Statement.{statement}
 use Rattle.writing.proofs.encode.encode_pdu_session_establishment_request.Tie as tie
+
+pdu-session-establishment-request-requires : tie.Need-pdu-session-establishment-request-requires
+pdu-session-establishment-request-requires c κs = search needs
+
+index-pdu-session-establishment-request-requires : tie.Need-index-pdu-session-establishment-request-requires
+index-pdu-session-establishment-request-requires c κs = search needs
 
 slice-aggregate-encode-by-index : tie.Need-slice-aggregate-encode-by-index
 slice-aggregate-encode-by-index c = search needs
@@ -15,20 +18,20 @@ slice-aggregate-encode-by-index-2 : tie.Need-slice-aggregate-encode-by-index-2
 slice-aggregate-encode-by-index-2 c = search needs
 
 encode-by-index-requires : tie.Need-encode-by-index-requires
-unfolding tableOf realIndexOf concat row optional5 index5
-encode-by-index-requires c κs = (real 5 .passes, real 5 .entries)
+encode-by-index-requires c κs = (rw (c .before .before .before .before .pdu-session-establishment-request .ensures) (real 5 .passes), rw (c .before .before .before .before .pdu-session-establishment-request .ensures) (c .before .before .before .index-pdu-session-establishment-request .ensures))
 
 same-length : tie.Need-same-length
 same-length c = search needs
 
 returns : tie.Need-returns
-unfolding tableOf concat row optional5
-returns c = c .before .before .encode-by-index .ensures
+returns c = rw (c .before .before .before .before .before .before .before .pdu-session-establishment-request .ensures) at (c .before .before .encode-by-index .ensures)
 
 pub encode-pdu-session-establishment-request-spec : {M : Type 1} → statement M
 encode-pdu-session-establishment-request-spec =
     tie.close
     (tie.spec
+    pdu-session-establishment-request-requires
+    index-pdu-session-establishment-request-requires
     slice-aggregate-encode-by-index
     slice-aggregate-encode-by-index-2
     encode-by-index-requires

@@ -1,12 +1,15 @@
--- `encode_registration_accept` lends its constant table and index to `encode_by_index`.
--- That the table passes, and that the index is its own, is the rule of the constants.
-use Rattle.definitions.specs.Basic.{concat}
-use Rattle.definitions.specs.Tables.{tableOf, row, optional2}
-use Rattle.real.specs.Real.{realIndexOf, index2}
+-- `encode_registration_accept` lends the table and its index to `encode_by_index`.
+-- That the table passes is the rule of the constants.
 use Rattle.real.proofs.RealLaws.{real}
 use borrow.Author.Needs.{needs}
 use Rattle.writing.proofs.encode.encode_registration_accept.Statement.{statement}
 use Rattle.writing.proofs.encode.encode_registration_accept.Tie as tie
+
+registration-accept-requires : tie.Need-registration-accept-requires
+registration-accept-requires c κs = search needs
+
+index-registration-accept-requires : tie.Need-index-registration-accept-requires
+index-registration-accept-requires c κs = search needs
 
 slice-aggregate-encode-by-index : tie.Need-slice-aggregate-encode-by-index
 slice-aggregate-encode-by-index c = search needs
@@ -15,20 +18,20 @@ slice-aggregate-encode-by-index-2 : tie.Need-slice-aggregate-encode-by-index-2
 slice-aggregate-encode-by-index-2 c = search needs
 
 encode-by-index-requires : tie.Need-encode-by-index-requires
-unfolding tableOf realIndexOf concat row optional2 index2
-encode-by-index-requires c κs = (real 2 .passes, real 2 .entries)
+encode-by-index-requires c κs = (rw (c .before .before .before .before .registration-accept .ensures) (real 2 .passes), rw (c .before .before .before .before .registration-accept .ensures) (c .before .before .before .index-registration-accept .ensures))
 
 same-length : tie.Need-same-length
 same-length c = search needs
 
 returns : tie.Need-returns
-unfolding tableOf concat row optional2
-returns c = c .before .before .encode-by-index .ensures
+returns c = rw (c .before .before .before .before .before .before .before .registration-accept .ensures) at (c .before .before .encode-by-index .ensures)
 
 pub encode-registration-accept-spec : {M : Type 1} → statement M
 encode-registration-accept-spec =
     tie.close
     (tie.spec
+    registration-accept-requires
+    index-registration-accept-requires
     slice-aggregate-encode-by-index
     slice-aggregate-encode-by-index-2
     encode-by-index-requires
