@@ -21,6 +21,9 @@ module _ {E R : Type 0} (list : List ℕ → Option (List E)) (content : List �
     pub inside : at ≤ length content
     pub tells : tell (list (drop at content)) ≡ whole
 
+  pub left-begin : {tell : Option (List E) → R} → tell (list content) ≡ whole → Left 0 tell
+  left-begin e = record { inside = omega arith; tells = e }
+
   module _ {at : ℕ} {tell : Option (List E) → R} (l : Left at tell) where
     pub left-step : {at′ : ℕ} {tell′ : Option (List E) → R} (e : E) → at′ ≤ length content → list (drop at content) ≡ put e (list (drop at′ content))
         → ((o : Option (List E)) → tell′ o ≡ tell (put e o)) → Left at′ tell′
@@ -103,7 +106,7 @@ module _ {E : Type 0} (log : Log E) (want : ℕ) where
 
   module _ (content : List ℕ) where
     pub begun : Walking content 0 0 []
-    begun = record { few = omega arith; not-yet = λ h. refl; left = record { inside = omega arith; tells = refl } }
+    begun = record { few = omega arith; not-yet = λ h. refl; left = left-begin (log .list) content _ refl }
 
     module _ {at count : ℕ} {found : List ℕ} (w : Walking content at count found) where
       pub stepped : {at′ count′ : ℕ} {found′ : List ℕ} (e : E) → at < at′ → at′ ≤ length content → at′ ≡ at + log .size e

@@ -42,7 +42,7 @@ enum-known-value c = search needs
 split : (c : tie.After-known-told Inv-loop μ-loop) → KeptEntry (c .before .before .before .before .before .before .before .before .args .kept .now) (c .before .before .before .before .before .before .loop .at) (record { value = c .before .value .given .0 .0; took = c .before .value .given .0 .1 .0 })
 split c =
     let s = drop (c .before .before .before .before .before .before .loop .at) (c .before .before .before .before .before .before .before .before .args .kept .now) in
-    kept-split (c .before .before .before .before .before .before .before .before .args .kept .now) (c .before .before .before .before .before .before .loop .at) (c .before .before .before .before .before .before .loop .inv .inside) (count-is (entryOf s (countAt s)) (sym (c .before .value .given .1) ∙ rw to-end at (c .before .before .before .entry-at .ensures)))
+    kept-split (c .before .before .before .before .before .before .before .before .args .kept .now) (c .before .before .before .before .before .before .loop .at) (c .before .before .before .before .before .before .loop .inv .left .inside) (count-is (entryOf s (countAt s)) (sym (c .before .value .given .1) ∙ rw to-end at (c .before .before .before .entry-at .ensures)))
 
 add-octets : tie.Need-add-octets Inv-loop μ-loop
 add-octets c = omega (arith, split c .within, c .before .before .before .before .before .before .loop .inv .few)
