@@ -1,6 +1,6 @@
 -- A walk over a kept log, as the walk over either log: start and length stand for what is found.
 -- An entry takes its count, in shortest form, and its element.
-use Prim.Native.Nat.{ℕ, _+_, _≤_, _<_}
+use Prim.Native.Nat.{ℕ, _+_, _<_}
 use native.Mathlib.Omega.{arith}
 use mathlib.Core.Path.{_≡_, refl, ap, _∙_}
 use mathlib.Core.List.{List, [], _∷_}
@@ -10,7 +10,7 @@ use borrow.Author.Tests.{ne-eqb}
 use lib.ListN.{length, take, drop, length-take, length-drop}
 use lib.Dec.{eqb}
 use Rattle.definitions.specs.Basic.{pick}
-use Rattle.definitions.specs.Logs.{leb128, keptEntry, Count, countAt, keptList}
+use Rattle.definitions.specs.Logs.{leb128, Count, countAt, keptList}
 use Rattle.definitions.proofs.Logs.{entryOf, entry-at-fits, entry-length}
 use Rattle.definitions.proofs.LogSteps.{kept-split, kept-stop}
 use Rattle.definitions.proofs.LogWalks.{keptLog, Walking, stepped, stopped}

@@ -1,9 +1,9 @@
 -- A walk over an order log, as the walk over either log: the entry that is remembered stands for what is found.
 -- Then the question by what a whole walk tells.
-use Prim.Native.Nat.{ℕ, _+_, _≤_, _<_}
+use Prim.Native.Nat.{ℕ, _≤_, _<_}
 use native.Mathlib.Omega.{arith}
 use mathlib.Core.Path.{_≡_, refl, sym}
-use mathlib.Core.List.{List, [], _∷_}
+use mathlib.Core.List.{List}
 use mathlib.Core.Option.{Option, none, some}
 use lib.ListN.{length, take, drop}
 use Rattle.definitions.specs.Basic.{answer, content, mostLog}

@@ -28,17 +28,17 @@ enum-known-next : tie.Need-enum-known-next Inv-loop μ-loop
 enum-known-next c = search needs
 
 loop-less : tie.Need-loop-less Inv-loop μ-loop
-loop-less c = let k = stepped-on (c .before .before .before .before .before .before .before .before .args .content .now) (c .before .before .before .before .before .before .before .before .args .want) (c .before .before .before .before .before .before .loop .w) (c .before .before .before .before .before .before .loop .inv) (omega arith) (c .before .next .given .0 .0) (sym (c .before .next .given .1) ∙ c .before .before .before .kept-step .ensures) in omega arith
+loop-less c = let k = stepped-on _ _ (c .before .before .before .before .before .before .loop .w) (c .before .before .before .before .before .before .loop .inv) (omega arith) _ (sym (c .before .next .given .1) ∙ c .before .before .before .kept-step .ensures) in omega arith
 
 loop-again : tie.Need-loop-again Inv-loop μ-loop
-loop-again c = stepped-on (c .before .before .before .before .before .before .before .before .args .content .now) (c .before .before .before .before .before .before .before .before .args .want) (c .before .before .before .before .before .before .loop .w) (c .before .before .before .before .before .before .loop .inv) (omega arith) (c .before .next .given .0 .0) (sym (c .before .next .given .1) ∙ c .before .before .before .kept-step .ensures) .0
+loop-again c = stepped-on _ _ (c .before .before .before .before .before .before .loop .w) (c .before .before .before .before .before .before .loop .inv) (omega arith) _ (sym (c .before .next .given .1) ∙ c .before .before .before .kept-step .ensures) .0
 
 enum-told : tie.Need-enum-told Inv-loop μ-loop
 enum-told c = search needs
 
 returns : tie.Need-returns Inv-loop μ-loop
 unfolding toldBy
-returns c = stopped-at (c .before .before .before .before .before .before .before .args .content .now) (c .before .before .before .before .before .before .before .args .want) (c .before .before .before .before .before .loop .w) (c .before .before .before .before .before .loop .inv) (omega arith) (sym (c .enum-told .given .1) ∙ c .before .before .kept-step .ensures)
+returns c = stopped-at _ _ (c .before .before .before .before .before .loop .w) (c .before .before .before .before .before .loop .inv) (omega arith) (sym (c .enum-told .given .1) ∙ c .before .before .kept-step .ensures)
 
 returns-2 : tie.Need-returns-2 Inv-loop μ-loop
 unfolding toldBy foundBy
