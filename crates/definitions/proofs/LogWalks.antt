@@ -1,5 +1,5 @@
 -- A walk over a log of either kind, an entry at a time: what is told from the next entry on is what was told from this one on.
--- By the order of the wanted number and the entries passed: it was met before, it is this one, or it is further on.
+-- By the order of the wanted number and the entries passed. Then a push, which leaves what the walk and its checks say.
 use Prim.Native.Nat.{ℕ, suc, _+_, _-_, _≤_, _<_}
 use native.Mathlib.Omega.{arith}
 use mathlib.Core.Path.{_≡_, refl, ap, ap₂, sym, _∙_}
@@ -61,14 +61,32 @@ unfolding keptAt
 kept-asks = record { past = λ at k. refl; first = λ at e es. refl; next = λ at k e es. refl }
 
 abbrev pub keptLog : Log (List ℕ)
-keptLog = record { list = keptList; nil = kept-nil; size = λ e. length (keptEntry e); here = keptHere; asked = keptAt; asks = kept-asks; says = λ n found. n ∷ found }
+keptLog =
+    record {
+      list = keptList;
+      nil = kept-nil;
+      size = λ e. length (keptEntry e);
+      here = keptHere;
+      asked = keptAt;
+      asks = kept-asks;
+      says = λ n found. n ∷ found;
+    }
 
 pub order-asks : Asks (λ p. length (orderEntry p)) (λ at. orderEntry) (λ at. entryAt)
 unfolding entryAt
 order-asks = record { past = λ at k. refl; first = λ at p ps. refl; next = λ at k p ps. refl }
 
 abbrev pub orderLog : Log Placed
-orderLog = record { list = orderList; nil = order-nil; size = λ p. length (orderEntry p); here = λ at. orderEntry; asked = λ at. entryAt; asks = order-asks; says = λ n found. found }
+orderLog =
+    record {
+      list = orderList;
+      nil = order-nil;
+      size = λ p. length (orderEntry p);
+      here = λ at. orderEntry;
+      asked = λ at. entryAt;
+      asks = order-asks;
+      says = λ n found. found;
+    }
 
 module _ {E : Type 0} (log : Log E) (want : ℕ) where
   -- what a walk tells that is at a position, with so many entries passed and the wanted one found or not, by the entries left

@@ -12,7 +12,8 @@ use Rattle.definitions.proofs.Logs.{not-long, asking-done}
 use Rattle.definitions.proofs.LogWalks.{keptLog, Tells, told-log}
 use Rattle.kept.specs.Kept.{usedOf, foundBy, tell, startWalk}
 
-module _ (log : List ℕ) (used want : ℕ) (h : used ≤ length log) (g : used ≤ mostLog) {n : ℕ} {found : List ℕ} (e : some (n ∷ found) ≡ tell startWalk want (keptList (take used log))) where
+module _ (log : List ℕ) (used want : ℕ) (h : used ≤ length log) (g : used ≤ mostLog) {n : ℕ} {found : List ℕ}
+    (e : some (n ∷ found) ≡ tell startWalk want (keptList (take used log))) where
   tells : Tells keptLog want (keptList (take used log)) (n ∷ found)
   unfolding foundBy
   tells = told-log keptLog want (keptList (take used log)) e

@@ -3,7 +3,7 @@
 use Prim.Native.Nat.{ℕ, _+_, _<_}
 use native.Mathlib.Omega.{arith}
 use mathlib.Core.Path.{_≡_, refl, ap, _∙_}
-use mathlib.Core.List.{List, [], _∷_}
+use mathlib.Core.List.{List}
 use mathlib.Core.Bool.{Bool, true, false}
 use mathlib.Core.Option.{Option, none, some}
 use borrow.Author.Tests.{ne-eqb}
@@ -13,7 +13,7 @@ use Rattle.definitions.specs.Basic.{pick}
 use Rattle.definitions.specs.Logs.{leb128, Count, countAt, keptList}
 use Rattle.definitions.proofs.Logs.{entryOf, entry-at-fits, entry-length}
 use Rattle.definitions.proofs.LogSteps.{kept-split, kept-stop}
-use Rattle.definitions.proofs.LogWalks.{keptLog, Walking, stepped, stopped}
+use Rattle.definitions.proofs.LogWalks.{keptHere, keptLog, Walking, stepped, stopped}
 use Rattle.kept.specs.Kept.{passed, stepOf, foundBy, tell, startWalk}
 use Rattle.kept.specs.declared.Walk.{Walk}
 use Rattle.kept.specs.declared.Step.{Step}
@@ -30,7 +30,9 @@ module _ (content : List ℕ) (want : ℕ) (w : Walk) (i : WalkAt content want w
   passed-on c e =
       let k = kept-split content (w .at) (omega arith) e in
       let a : w .at + (c .took + c .value) ≡ w .at + c .took + c .value = omega arith in
-      (stepped keptLog want content i element (omega (arith, k .count)) (omega (arith, k .within)) (omega (arith, entry-length element, long, digits)) refl (found (eqb (w .count) want)) (rw a (k .splits)), omega (arith, k .count))
+      let size = entry-length element in
+      let further : w .at < w .at + (c .took + c .value) = omega (arith, k .count) in
+      (stepped keptLog want content i element further (omega (arith, k .within)) (omega (arith, long, digits)) refl (found (eqb (w .count) want)) (rw a (k .splits)), further)
     where
       element : List ℕ
       element = take (c .value) (drop (w .at + c .took) content)
@@ -41,7 +43,7 @@ module _ (content : List ℕ) (want : ℕ) (w : Walk) (i : WalkAt content want w
       digits : length (leb128 (length element)) ≡ c .took
       digits = ap (λ (n : ℕ). length (leb128 n)) long ∙ entry-at-fits s e .3
 
-      found : (b : Bool) → foundBy (pick b (w .at + c .took) (w .start)) (pick b (c .value) (w .len)) ≡ pick b ((w .at + length (leb128 (length element))) ∷ length element ∷ []) (foundBy (w .start) (w .len))
+      found : (b : Bool) → foundBy (pick b (w .at + c .took) (w .start)) (pick b (c .value) (w .len)) ≡ pick b (keptHere (w .at) element) (foundBy (w .start) (w .len))
       found true = rw (ne-eqb (c .value) 0 (omega (arith, entry-at-fits s e .1)), digits, long)
       found false = refl
 

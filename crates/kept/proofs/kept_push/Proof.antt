@@ -11,7 +11,7 @@ use Rattle.definitions.proofs.Logs.{past-buffer, past-limit, count-short}
 use Rattle.definitions.proofs.Lists.{lent-over}
 use Rattle.definitions.proofs.LogWalks.{keptLog, told-bad, told-log, push-used, push-large, push-over, push-bad, push-full, push-done}
 use Rattle.kept.specs.Kept.{usedOf, foundBy, toldBy}
-use Rattle.kept.proofs.Pushing.{needed, large, not-large}
+use Rattle.kept.proofs.Entries.{needed, large, not-large}
 use borrow.Author.Needs.{needs}
 use Rattle.kept.proofs.kept_push.Statement.{statement}
 use Rattle.kept.proofs.kept_push.Tie as tie

@@ -46,7 +46,7 @@ entry-len-requires c κs = search needs
 
 -- the entry at the position
 split : (c : tie.After-known-told Inv-loop μ-loop) → OrderEntry (c .before .before .before .before .before .before .before .before .args .order .now) (c .before .before .before .before .before .before .loop .at) (c .before .before .before .before .before .loop-test .taken) (placedAs (c .before .entry .given .0 .0))
-split c = order-split (c .before .before .before .before .before .before .before .before .args .order .now) (c .before .before .before .before .before .before .loop .at) (c .before .before .before .before .before .loop-test .taken) (sym (ap frontAs (sym (c .before .entry .given .1)) ∙ rw to-end at (c .before .before .before .front-at .ensures)))
+split c = order-split _ _ (c .before .before .before .before .before .loop-test .taken) (sym (ap frontAs (sym (c .before .entry .given .1)) ∙ rw to-end at (c .before .before .before .front-at .ensures)))
 
 add-at : tie.Need-add-at Inv-loop μ-loop
 add-at c = omega (arith, c .entry-len .ensures, split (c .before) .within)
