@@ -12,6 +12,7 @@ pub mod LogLaws
 pub mod BitLaws
 pub mod Orders
 pub mod LogSteps
+pub mod LogWalks
 pub mod Readings
 pub mod WriteLaws
 pub mod Mandatories

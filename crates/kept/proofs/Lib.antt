@@ -2,6 +2,5 @@
 pub mod Counts
 pub mod Walks
 pub mod Asked
-pub mod Pushing
 pub mod Entries
 pub mod SameAnswers

@@ -1,12 +1,13 @@
 -- The answers of the kept log by the definitions, and what a walk over it holds.
-use Prim.Native.Nat.{ℕ, _+_, _-_}
+use Prim.Native.Nat.{ℕ, _+_}
 use mathlib.Core.List.{List, [], _∷_}
 use mathlib.Core.Bool.{_&&_}
 use mathlib.Core.Option.{Option, none, some}
 use lib.ListN.{length, take, drop}
-use lib.Dec.{eqb, ltb, leb}
+use lib.Dec.{eqb, leb}
 use Rattle.definitions.specs.Basic.{pick, Answer, answer, Used, over, mostOctets}
-use Rattle.definitions.specs.Logs.{Count as DefCount, keptAt, keptEntry}
+use Rattle.definitions.specs.Logs.{Count as DefCount, keptEntry}
+use Rattle.definitions.proofs.LogWalks.{keptLog, told}
 use Rattle.kept.specs.declared.Count.{Count}
 use Rattle.kept.specs.declared.Walk.{Walk}
 use Rattle.kept.specs.declared.Step.{Step}
@@ -77,9 +78,8 @@ toldBy (Walked.Log count start len) = some (count ∷ foundBy start len)
 toldBy Walked.Malformed = none
 
 -- the same from where a walk is, by the elements that are left
-unfoldable pub tell : Walk → ℕ → Option (List (List ℕ)) → Option (List ℕ)
-tell w want none = none
-tell w want (some es) = some ((w .count + length es) ∷ pick (ltb want (w .count)) (foundBy (w .start) (w .len)) (keptAt (w .at) (want - w .count) es))
+abbrev pub tell : Walk → ℕ → Option (List (List ℕ)) → Option (List ℕ)
+tell w want = told keptLog want (w .at) (w .count) (foundBy (w .start) (w .len))
 
 -- a walk that begins
 abbrev pub startWalk : Walk

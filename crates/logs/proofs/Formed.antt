@@ -1,6 +1,6 @@
 -- Both logs passed an entry at a time: a log that is malformed further on is malformed, and what is left decides.
 -- Each step moves an entry from what is left into what is passed; at the end nothing is left.
-use Prim.Native.Nat.{ℕ, zero, suc, _+_, _≤_, _<_}
+use Prim.Native.Nat.{ℕ, zero, suc, _+_, _≤_}
 use native.Mathlib.Omega.{arith}
 use mathlib.Core.Path.{_≡_, refl, ap, sym, _∙_}
 use mathlib.Core.List.{List, [], _∷_}
@@ -8,38 +8,20 @@ use mathlib.Core.Bool.{true, false, false≢true}
 use mathlib.Core.Option.{Option, none, some}
 use lib.ListN.{length, take, drop, length-take, length-drop, length-append}
 use Rattle.definitions.specs.Basic.{isNone, concat}
-use Rattle.definitions.specs.Logs.{Placed, Count, countAt, put, keptList, orderEntry, orderList, orEmpty}
+use Rattle.definitions.specs.Logs.{Placed, Count, countAt, put, keptList, orderList, orEmpty}
 use Rattle.definitions.proofs.Logs.{entryOf, kept-nil}
-use Rattle.definitions.proofs.Orders.{order-nil}
-use Rattle.definitions.proofs.LogSteps.{KeptEntry, OrderEntry, KeptAt, keptFrom, kept-split, kept-next, kept-over, kept-none}
+use Rattle.definitions.proofs.LogSteps.{KeptEntry, KeptAt, keptFrom, kept-split, kept-next, kept-over, kept-none}
+use Rattle.definitions.proofs.LogWalks.{Left, left-begin, left-step, left-stop, left-end}
 use Rattle.logs.specs.Checks.{keptOctets, checkedLogs, Checked}
 use Rattle.logs.specs.declared.Logs.{Logs}
 use Rattle.logs.specs.declared.Kept.{Kept}
 
 -- ---- the order log
 
--- what is left decides whether the log is malformed
-pub record Passing (order : List ℕ) (at : ℕ) : Type 0 where
-  pub inside : at ≤ length order
-  pub decides : isNone (orderList (drop at order)) ≡ isNone (orderList order)
-
-none-put : {X : Type 0} (x : X) (o : Option (List X)) → isNone (put x o) ≡ isNone o
+pub none-put : {X : Type 0} (x : X) (o : Option (List X)) → isNone o ≡ isNone (put x o)
 unfolding put isNone
 none-put x none = refl
 none-put x (some xs) = refl
-
-module _ (order : List ℕ) where
-  pub passing-begun : Passing order 0
-  passing-begun = record { inside = omega arith; decides = refl }
-
-  module _ (at : ℕ) (l : Passing order at) where
-    pub passing-step : {h : at < length order} {p : Placed} → OrderEntry order at h p → Passing order (at + length (orderEntry p))
-    passing-step {p = p} o =
-        record { inside = o .within; decides = sym (ap isNone (o .splits) ∙ none-put p (orderList (drop (at + length (orderEntry p)) order))) ∙ l .decides }
-
-    pub passing-ended : length order ≤ at → isNone (orderList order) ≡ false
-    unfolding isNone
-    passing-ended h = sym (l .decides) ∙ ap isNone (order-nil (drop at order) (simp length-drop (omega arith)))
 
 -- ---- the kept log
 
@@ -48,10 +30,10 @@ unfoldable pub with : ℕ → Option (List (List ℕ)) → Kept
 with n none = Kept.Malformed
 with n (some es) = Kept.Octets (n + length (concat es))
 
-with-put : (n : ℕ) (e : List ℕ) (o : Option (List (List ℕ))) → with n (put e o) ≡ with (n + length e) o
+with-put : (n : ℕ) (e : List ℕ) (o : Option (List (List ℕ))) → with (n + length e) o ≡ with n (put e o)
 unfolding with put concat
 with-put n e none = refl
-with-put n e (some es) = let z : n + length (concat (e ∷ es)) ≡ n + length e + length (concat es) = omega (arith, length-append e (concat es)) in ap Kept.Octets z
+with-put n e (some es) = let z : n + length e + length (concat es) ≡ n + length (concat (e ∷ es)) = omega (arith, length-append e (concat es)) in ap Kept.Octets z
 
 with-none : (o : Option (List (List ℕ))) → with 0 o ≡ keptOctets o
 unfolding with keptOctets
@@ -59,13 +41,12 @@ with-none none = refl
 with-none (some es) = let z : 0 + length (concat es) ≡ length (concat es) = omega arith in ap Kept.Octets z
 
 pub record Keeping (kept : List ℕ) (at octets : ℕ) : Type 0 where
-  pub inside : at ≤ length kept
   pub few : octets ≤ at
-  pub is : with octets (keptList (drop at kept)) ≡ keptOctets (keptList kept)
+  pub left : Left keptList kept (keptOctets (keptList kept)) at (with octets)
 
 module _ (kept : List ℕ) where
   pub keeping-begun : Keeping kept 0 0
-  keeping-begun = record { inside = omega arith; few = omega arith; is = with-none (keptList kept) }
+  keeping-begun = record { few = omega arith; left = left-begin keptList kept _ (with-none (keptList kept)) }
 
   module _ (at octets : ℕ) (l : Keeping kept at octets) where
     pub keeping-step : {c : Count} → KeptEntry kept at c → Keeping kept (at + (c .took + c .value)) (octets + c .value)
@@ -74,21 +55,15 @@ module _ (kept : List ℕ) where
         let e : List ℕ = take (c .value) (drop (at + c .took) kept) in
         let n : length e ≡ c .value = simp (length-take, length-drop) (omega (arith, k .within)) in
         rw z
-        (record {
-          inside = k .within;
-          few = omega (arith, k .count, l .few);
-          is = ap (λ (j : ℕ). with (octets + j) (keptList (drop (at + c .took + c .value) kept))) (sym n) ∙ sym (with-put octets e (keptList (drop (at + c .took + c .value) kept))) ∙ ap (with octets) (sym (k .splits)) ∙ l .is;
-        })
+        (record { few = omega (arith, k .count, l .few); left = left-step keptList kept _ (l .left) e (k .within) (k .splits) (rw n at (with-put octets e)) })
 
     pub keeping-stopped : keptList (drop at kept) ≡ none → Kept.Malformed ≡ keptOctets (keptList kept)
     unfolding with
-    keeping-stopped e = ap (with octets) (sym e) ∙ l .is
+    keeping-stopped e = left-stop keptList kept _ (l .left) e
 
     pub keeping-ended : length kept ≤ at → Kept.Octets octets ≡ keptOctets (keptList kept)
     unfolding with concat
-    keeping-ended h =
-        let z : octets ≡ octets + length {A = ℕ} (concat []) = omega arith in
-        ap Kept.Octets z ∙ ap (with octets) (sym (kept-nil (drop at kept) (simp length-drop (omega arith)))) ∙ l .is
+    keeping-ended h = let z : octets ≡ octets + length {A = ℕ} (concat []) = omega arith in ap Kept.Octets z ∙ left-end keptList kept _ (l .left) kept-nil h
 
 -- ---- both
 

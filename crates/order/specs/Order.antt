@@ -1,12 +1,13 @@
 -- The answers of the order log by the definitions, and what a walk over it holds.
-use Prim.Native.Nat.{ℕ, _+_, _-_}
+use Prim.Native.Nat.{ℕ, _+_}
 use mathlib.Core.Path.{_≡_}
 use mathlib.Core.List.{List, [], _∷_}
 use mathlib.Core.Option.{Option, none, some}
 use lib.ListN.{length}
-use lib.Dec.{eqb, ltb}
+use lib.Dec.{eqb}
 use Rattle.definitions.specs.Basic.{pick, Answer, answer}
-use Rattle.definitions.specs.Logs.{Placed as DefPlaced, knownIei, notKnown, ignored, Reason, byForm, again, late, orderEntry, entryAt}
+use Rattle.definitions.specs.Logs.{Placed as DefPlaced, knownIei, notKnown, ignored, Reason, byForm, again, late, orderEntry}
+use Rattle.definitions.proofs.LogWalks.{orderLog, told}
 use Rattle.order.specs.declared.IgnoredIeReason.{IgnoredIeReason}
 use Rattle.order.specs.declared.Placed.{Placed}
 use Rattle.order.specs.declared.Entry.{Entry}
@@ -52,9 +53,8 @@ toldBy (OrderWalked.Log w) = some (wantedAs w)
 toldBy OrderWalked.Malformed = none
 
 -- the same from where a walk is, by the entries that are left
-unfoldable pub tell : OrderWalk → ℕ → Option (List DefPlaced) → Option (List ℕ)
-tell w want none = none
-tell w want (some ps) = some (pick (ltb want (w .count)) (wantedAs (w .wanted)) (entryAt (want - w .count) ps))
+abbrev pub tell : OrderWalk → ℕ → Option (List DefPlaced) → Option (List ℕ)
+tell w want = told orderLog want (w .at) (w .count) (wantedAs (w .wanted))
 
 abbrev pub startWalk : OrderWalk
 startWalk = record { at = 0; count = 0; wanted = Wanted.NotYet }

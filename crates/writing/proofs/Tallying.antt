@@ -8,20 +8,20 @@ use mathlib.Core.List.{List, [], _∷_}
 use mathlib.Core.Bool.{Bool, true, false, _||_}
 use mathlib.Core.Option.{Option, none, some}
 use borrow.Author.Tests.{lt-ltb}
-use lib.ListN.{length, drop, length-drop}
+use lib.ListN.{length, drop}
 use lib.Dec.{eqb}
 use Rattle.definitions.specs.Basic.{pick, bit, among}
 use Rattle.definitions.specs.Rows.{Row, form, rowAt, rowsOf, firstBad, placeOf, placeIn}
 use Rattle.definitions.specs.Elements.{including}
 use Rattle.definitions.specs.Values.{valueAt, present, octetsAt}
-use Rattle.definitions.specs.Logs.{Placed, knownIei, notKnown, ignored, Reason, put, orderEntry, orderList}
+use Rattle.definitions.specs.Logs.{Placed, knownIei, notKnown, ignored, Reason, orderEntry}
 use Rattle.definitions.specs.Writing.{Filled, encoded, elementAt, logged}
 use Rattle.definitions.proofs.BitLaws.{bit-including}
-use Rattle.definitions.proofs.Orders.{order-nil}
+use Rattle.definitions.proofs.Orders.{orderFront}
 use Rattle.definitions.proofs.RowLaws.{listed}
 use Rattle.definitions.proofs.TableLaws.{few-places, index-place}
 use Rattle.definitions.proofs.WriteLaws.{loggedLength}
-use Rattle.definitions.proofs.LogSteps.{OrderEntry}
+use Rattle.definitions.proofs.LogSteps.{OrderAt, orderFrom, order-split, order-next, order-over}
 use Rattle.seen.specs.Seen.{setOf, seenOf, includingPlace}
 use Rattle.seen.specs.declared.Seen.{Seen}
 use Rattle.writing.specs.Walks.{IndexIs}
@@ -106,27 +106,22 @@ places-more t (ignored r) ps j set = refl
 
 -- ---- the order log
 
-pub never-none : {X : Type 0} {x : X} → none ≡ some x → ⊥
-never-none e = let z : _≡_ {A = ℕ} 0 1 = cc in omega arith
-
 bit-zero : (k : ℕ) → bit k 0 ≡ false
 unfolding bit
 bit-zero k = let z : 0 / 2 ^ k ≡ 0 = zero-div (2 ^ k) in rw z
 
 pub record Logging (m : Filled) (order : List ℕ) (at : ℕ) (t : Tally) : Type 0 where
-  pub inside : at ≤ length order
+  pub here : OrderAt order at
   pub few : t .octets ≤ mostIe * at
-  pub bad : orderList (drop at order) ≡ none → orderList order ≡ none
-  pub good : (qs : List Placed) → orderList (drop at order) ≡ some qs → Tells m order (t .octets) (setOf (t .seen)) qs
+  pub tells : Tells m order (t .octets) (setOf (t .seen)) (orderFrom order at)
 
 module _ (m : Filled) (order : List ℕ) where
-  pub logging-begun : Logging m order 0 (record { octets = 0; seen = record { low = 0; high = 0 } })
-  logging-begun =
+  pub logging-begun : OrderAt order 0 → Logging m order 0 (record { octets = 0; seen = record { low = 0; high = 0 } })
+  logging-begun l =
       record {
-        inside = omega arith;
+        here = l;
         few = omega arith;
-        bad = λ e. e;
-        good = λ qs e. record { ps = qs; is = e; sum = omega arith; places = λ k. nothing k (among k (logged (m .table) qs)) };
+        tells = record { ps = orderFrom order 0; is = l .formed; sum = omega arith; places = λ k. nothing k (among k (logged (m .table) (orderFrom order 0))) };
       }
     where
       or-false : (b : Bool) → (b || false) ≡ b
@@ -137,22 +132,21 @@ module _ (m : Filled) (order : List ℕ) where
       nothing k b = ap (λ (x : Bool). b || x) (bit-zero k) ∙ or-false b
 
   module _ (at : ℕ) (t : Tally) (l : Logging m order at t) where
-    pub logging-step : {h : at < length order} {p : Placed} {r : Tally} → OrderEntry order at h p → Tallied m p t r → Logging m order (at + length (orderEntry p)) r
-    unfolding put
-    logging-step {p = p} {r = r} o s =
+    pub logging-step : (h : at < length order) {p : Placed} {r : Tally} → orderFront (drop at order) ≡ some p → Tallied m p t r → Logging m order (at + length (orderEntry p)) r
+    logging-step h {p = p} {r = r} e s =
+        let n = order-next order at h (l .here) e in
+        let g = rw (n .0) at (l .tells) in
+        let qs = orderFrom order (at + length (orderEntry p)) in
         record {
-          inside = o .within;
-          few = omega (arith, o .octet, s .few, l .few);
-          bad = λ e. l .bad (o .splits ∙ rw e);
-          good = λ qs e.
-              let g = l .good (p ∷ qs) (o .splits ∙ rw e) in
-              record {
-                ps = g .ps;
-                is = g .is;
-                sum = omega (arith, s .octets, logged-more m p qs, g .sum);
-                places = λ k. ap (λ (n : ℕ). among k (logged (m .table) qs) || bit k n) (s .set) ∙ sym (places-more (m .table) p qs k (setOf (t .seen))) ∙ g .places k;
-              };
+          here = n .1;
+          few = omega (arith, order-split order at h e .octet, s .few, l .few);
+          tells = record {
+            ps = g .ps;
+            is = g .is;
+            sum = omega (arith, s .octets, logged-more m p qs, g .sum);
+            places = λ k. ap (λ (n : ℕ). among k (logged (m .table) qs) || bit k n) (s .set) ∙ sym (places-more (m .table) p qs k (setOf (t .seen))) ∙ g .places k;
+          };
         }
 
     pub logging-ended : length order ≤ at → LoggedBy m order t
-    logging-ended h = (let e : at ≡ length order = omega (arith, l .inside) in rw e at (l .few), l .good [] (order-nil (drop at order) (simp length-drop (omega arith))))
+    logging-ended h = (let e : at ≡ length order = omega (arith, l .here .inside) in rw e at (l .few), rw (order-over order at h) at (l .tells))

@@ -5,23 +5,28 @@ use native.Mathlib.Omega.{arith}
 use mathlib.Core.Path.{ap, sym, _∙_}
 use mathlib.Core.List.{_∷_}
 use lib.ListN.{length-take, length-drop}
-use Rattle.definitions.specs.Logs.{keptEntry}
+use Rattle.definitions.specs.Basic.{content}
+use Rattle.definitions.specs.Logs.{keptEntry, keptPush}
 use Rattle.definitions.proofs.Logs.{past-buffer, past-limit, count-short}
 use Rattle.definitions.proofs.Lists.{lent-over}
-use Rattle.kept.specs.Kept.{usedOf, toldBy}
-use Rattle.kept.proofs.Pushing.{push-used, push-large, push-over, push-bad, push-full, push-done, needed}
+use Rattle.definitions.proofs.LogWalks.{keptLog, told-bad, told-log, push-used, push-large, push-over, push-bad, push-full, push-done}
+use Rattle.kept.specs.Kept.{usedOf, foundBy, toldBy}
+use Rattle.kept.proofs.Entries.{needed, large, not-large}
 use borrow.Author.Needs.{needs}
 use Rattle.kept.proofs.kept_push.Statement.{statement}
 use Rattle.kept.proofs.kept_push.Tie as tie
 
 returns : tie.Need-returns
-returns c = push-used (c .before .before .before .args .log .now) (c .before .before .before .args .octets .now) (c .before .before .before .args .used) (c .before .before .before .args .iei) (past-buffer 131070 (usedOf (c .before .before .before .args .log .now) (c .before .before .before .args .used)) (omega arith))
+unfolding keptPush
+returns c = push-used _ _ _ _ 2 2 (past-buffer 131070 (usedOf (c .before .before .before .args .log .now) (c .before .before .before .args .used)) (omega arith))
 
 returns-2 : tie.Need-returns-2
-returns-2 c = push-used (c .before .before .before .before .args .log .now) (c .before .before .before .before .args .octets .now) (c .before .before .before .before .args .used) (c .before .before .before .before .args .iei) (past-limit 131070 (usedOf (c .before .before .before .before .args .log .now) (c .before .before .before .before .args .used)) (omega arith))
+unfolding keptPush
+returns-2 c = push-used _ _ _ _ 2 2 (past-limit 131070 (usedOf (c .before .before .before .before .args .log .now) (c .before .before .before .before .args .used)) (omega arith))
 
 returns-3 : tie.Need-returns-3
-returns-3 c = push-large (c .before .before .before .before .before .args .log .now) (c .before .before .before .before .before .args .octets .now) (c .before .before .before .before .before .args .used) (c .before .before .before .before .before .args .iei) (omega arith)
+unfolding keptPush
+returns-3 c = push-large _ _ _ _ 2 2 (large (c .before .before .before .before .before .args .iei) (c .before .before .before .before .before .args .octets .now) (omega arith))
 
 add-n : tie.Need-add-n
 add-n c = search needs
@@ -38,7 +43,8 @@ add-if4 c =
     let r : c .count-len .result ≤ 3 = rw (c .count-len .ensures) (count-short _) in omega arith
 
 returns-4 : tie.Need-returns-4
-returns-4 c = push-over (c .before .before .before .before .before .before .before .args .log .now) (c .before .before .before .before .before .before .before .args .octets .now) (c .before .before .before .before .before .before .before .args .used) (c .before .before .before .before .before .before .before .args .iei) (c .before .count-len .result) (c .before .count-len .ensures) (omega arith)
+unfolding keptPush
+returns-4 c = let a = c .before .before .before .before .before .before .before .args in push-over _ _ _ _ 2 2 _ (needed (a .iei) (a .octets .now) (c .before .count-len .ensures)) (omega arith)
 
 slice-reshare-prefix-walk-kept : tie.Need-slice-reshare-prefix-walk-kept
 slice-reshare-prefix-walk-kept c = search needs
@@ -59,8 +65,11 @@ same-length : tie.Need-same-length
 same-length c = search needs
 
 returns-5 : tie.Need-returns-5
-unfolding toldBy
-returns-5 c = push-full (c .before .before .before .before .before .before .before .before .before .before .before .before .args .log .now) (c .before .before .before .before .before .before .before .before .before .before .before .before .args .octets .now) (c .before .before .before .before .before .before .before .before .before .before .before .before .args .used) (c .before .before .before .before .before .before .before .before .before .before .before .before .args .iei) (c .before .before .before .before .before .before .count-len .result) (c .before .before .before .before .before .before .count-len .ensures) (omega arith) (omega arith) (omega arith) (ap toldBy (sym (c .before .enum-told .given .1)) ∙ c .before .before .before .walk-kept .ensures) (omega arith)
+unfolding keptPush content toldBy foundBy
+returns-5 c =
+    let a = c .before .before .before .before .before .before .before .before .before .before .before .before .args in
+    push-full _ _ _ _ 2 2 _ (needed (a .iei) (a .octets .now) (c .before .before .before .before .before .before .count-len .ensures)) (omega arith) (not-large (a .iei) (a .octets .now) (omega arith)) (omega arith)
+    (told-log keptLog 0 _ (ap toldBy (sym (c .before .enum-told .given .1)) ∙ c .before .before .before .walk-kept .ensures) .good) (omega arith)
 
 sub-put-entry : tie.Need-sub-put-entry
 sub-put-entry c = search needs
@@ -72,7 +81,7 @@ part-put-entry-end : tie.Need-part-put-entry-end
 part-put-entry-end c = search needs
 
 put-entry-requires : tie.Need-put-entry-requires
-put-entry-requires c κs = (omega arith, simp (length-take, length-drop) (omega (arith, needed (c .before .before .before .before .before .before .before .before .before .before .before .before .before .args .log .now) (c .before .before .before .before .before .before .before .before .before .before .before .before .before .args .octets .now) (c .before .before .before .before .before .before .before .before .before .before .before .before .before .args .used) (c .before .before .before .before .before .before .before .before .before .before .before .before .before .args .iei) (c .before .before .before .before .before .before .before .count-len .result) (c .before .before .before .before .before .before .before .count-len .ensures))))
+put-entry-requires c κs = let a = c .before .before .before .before .before .before .before .before .before .before .before .before .before .args in (omega arith, simp (length-take, length-drop) (omega (arith, needed (a .iei) (a .octets .now) (c .before .before .before .before .before .before .before .count-len .ensures))))
 
 add-t14 : tie.Need-add-t14
 add-t14 c = search needs
@@ -84,18 +93,22 @@ same-length-2 : tie.Need-same-length-2
 same-length-2 c = search needs
 
 returns-6 : tie.Need-returns-6
-unfolding toldBy
+unfolding keptPush content toldBy foundBy
 returns-6 c =
     let a = c .before .before .before .before .before .before .before .before .before .before .before .before .before .before .before .before .args in
-    let p = push-done (c .before .before .before .before .before .before .before .before .before .before .before .before .before .before .before .before .args .log .now) (c .before .before .before .before .before .before .before .before .before .before .before .before .before .before .before .before .args .octets .now) (c .before .before .before .before .before .before .before .before .before .before .before .before .before .before .before .before .args .used) (c .before .before .before .before .before .before .before .before .before .before .before .before .before .before .before .before .args .iei) (c .before .before .before .before .before .before .before .before .before .before .count-len .result) (c .before .before .before .before .before .before .before .before .before .before .count-len .ensures) (omega arith) (omega arith) (omega arith) (ap toldBy (sym (c .before .before .before .before .before .enum-told .given .1)) ∙ c .before .before .before .before .before .before .before .walk-kept .ensures) (omega arith) in
+    let p = push-done (usedOf (a .log .now) (a .used)) (keptEntry (a .iei ∷ a .octets .now)) _ _ 2 2 _ (needed (a .iei) (a .octets .now) (c .before .before .before .before .before .before .before .before .before .before .count-len .ensures)) (omega arith) (not-large (a .iei) (a .octets .now) (omega arith)) (omega arith)
+    (told-log keptLog 0 _ (ap toldBy (sym (c .before .before .before .before .before .enum-told .given .1)) ∙ c .before .before .before .before .before .before .before .walk-kept .ensures) .good) (omega arith) in
     (p .0, rw (c .before .before .put-entry .ensures) (lent-over (a .used) (keptEntry (a .iei ∷ a .octets .now)) (a .log .now) (omega arith)) ∙ p .1)
 
 same-length-3 : tie.Need-same-length-3
 same-length-3 c = search needs
 
 returns-7 : tie.Need-returns-7
-unfolding toldBy
-returns-7 c = push-bad (c .before .before .before .before .before .before .before .before .before .before .before .args .log .now) (c .before .before .before .before .before .before .before .before .before .before .before .args .octets .now) (c .before .before .before .before .before .before .before .before .before .before .before .args .used) (c .before .before .before .before .before .before .before .before .before .before .before .args .iei) (c .before .before .before .before .before .count-len .result) (c .before .before .before .before .before .count-len .ensures) (omega arith) (omega arith) (omega arith) (ap toldBy (sym (c .enum-told2 .given .1)) ∙ c .before .before .walk-kept .ensures)
+unfolding keptPush content toldBy foundBy
+returns-7 c =
+    let a = c .before .before .before .before .before .before .before .before .before .before .before .args in
+    push-bad _ _ _ _ 2 2 _ (needed (a .iei) (a .octets .now) (c .before .before .before .before .before .count-len .ensures)) (omega arith) (not-large (a .iei) (a .octets .now) (omega arith)) (omega arith)
+    (told-bad keptLog 0 _ (ap toldBy (sym (c .enum-told2 .given .1)) ∙ c .before .before .walk-kept .ensures))
 
 pub kept-push-spec : {M : Type 1} → statement M
 kept-push-spec =

@@ -40,9 +40,7 @@ enum-known-value c = search needs
 
 -- the entry at the position
 split : (c : tie.After-known-told Inv-loop μ-loop) → KeptEntry (c .before .before .before .before .before .before .before .before .args .kept .now) (c .before .before .before .before .before .before .loop .at) (record { value = c .before .value .given .0 .0; took = c .before .value .given .0 .1 .0 })
-split c =
-    let s = drop (c .before .before .before .before .before .before .loop .at) (c .before .before .before .before .before .before .before .before .args .kept .now) in
-    kept-split (c .before .before .before .before .before .before .before .before .args .kept .now) (c .before .before .before .before .before .before .loop .at) (c .before .before .before .before .before .before .loop .inv .inside) (count-is (entryOf s (countAt s)) (sym (c .before .value .given .1) ∙ rw to-end at (c .before .before .before .entry-at .ensures)))
+split c = kept-split _ _ (c .before .before .before .before .before .before .loop .inv .left .inside) (count-is _ (sym (c .before .value .given .1) ∙ rw to-end at (c .before .before .before .entry-at .ensures)))
 
 add-octets : tie.Need-add-octets Inv-loop μ-loop
 add-octets c = omega (arith, split c .within, c .before .before .before .before .before .before .loop .inv .few)
@@ -57,7 +55,7 @@ loop-less : tie.Need-loop-less Inv-loop μ-loop
 loop-less c = omega (arith, split c .within, split c .count)
 
 loop-again : tie.Need-loop-again Inv-loop μ-loop
-loop-again c = keeping-step (c .before .before .before .before .before .before .before .before .args .kept .now) (c .before .before .before .before .before .before .loop .at) (c .before .before .before .before .before .before .loop .octets) (c .before .before .before .before .before .before .loop .inv) (split c)
+loop-again c = keeping-step _ _ _ (c .before .before .before .before .before .before .loop .inv) (split c)
 
 enum-told : tie.Need-enum-told Inv-loop μ-loop
 enum-told c = search needs
@@ -65,10 +63,10 @@ enum-told c = search needs
 returns : tie.Need-returns Inv-loop μ-loop
 returns c =
     let s = drop (c .before .before .before .before .before .loop .at) (c .before .before .before .before .before .before .before .args .kept .now) in
-    keeping-stopped (c .before .before .before .before .before .before .before .args .kept .now) (c .before .before .before .before .before .loop .at) (c .before .before .before .before .before .loop .octets) (c .before .before .before .before .before .loop .inv) (kept-stop (c .before .before .before .before .before .before .before .args .kept .now) (c .before .before .before .before .before .loop .at) (c .before .before .before .before .loop-test .taken) (count-not (entryOf s (countAt s)) (sym (c .enum-told .given .1) ∙ rw to-end at (c .before .before .entry-at .ensures))))
+    keeping-stopped _ _ _ (c .before .before .before .before .before .loop .inv) (kept-stop _ _ (c .before .before .before .before .loop-test .taken) (count-not (entryOf s (countAt s)) (sym (c .enum-told .given .1) ∙ rw to-end at (c .before .before .entry-at .ensures))))
 
 returns-2 : tie.Need-returns-2 Inv-loop μ-loop
-returns-2 c = keeping-ended (c .before .before .before .args .kept .now) (c .before .loop .at) (c .before .loop .octets) (c .before .loop .inv) (c .loop-test .left)
+returns-2 c = keeping-ended _ _ _ (c .before .loop .inv) (c .loop-test .left)
 
 pub kept-len-spec : {M : Type 1} → statement M
 kept-len-spec =

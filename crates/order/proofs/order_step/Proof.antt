@@ -5,9 +5,10 @@ use mathlib.Core.Path.{_≡_, refl, ap, sym, _∙_}
 use mathlib.Core.Option.{some}
 use native.Mathlib.Omega.{arith}
 use borrow.Author.Tests.{eq-eqb, ne-eqb}
-use lib.ListN.{drop, length-drop}
-use Rattle.definitions.proofs.Orders.{orderFront, Fits, front-fits}
+use lib.ListN.{drop}
+use Rattle.definitions.proofs.Orders.{orderFront}
 use Rattle.definitions.proofs.Lists.{to-end}
+use Rattle.definitions.proofs.LogSteps.{order-split}
 use Rattle.order.specs.Order.{placedAs, frontAs, wantedAs}
 use borrow.Author.Needs.{needs}
 use Rattle.order.proofs.order_step.Statement.{statement}
@@ -38,11 +39,8 @@ entered c = rw to-end at (c .front-at .ensures)
 found : (c : tie.After-known-told) → orderFront (drop (c .before .before .before .before .before .before .args .w .at) (c .before .before .before .before .before .before .args .content .now)) ≡ some (placedAs (c .before .entry .given .0 .0))
 found c = sym (ap frontAs (sym (c .before .entry .given .1)) ∙ entered (c .before .before .before))
 
-fits : (c : tie.After-known-told) → Fits (drop (c .before .before .before .before .before .before .args .w .at) (c .before .before .before .before .before .before .args .content .now)) (some (placedAs (c .before .entry .given .0 .0)))
-fits c = rw (found c) at (front-fits (drop (c .before .before .before .before .before .before .args .w .at) (c .before .before .before .before .before .before .args .content .now)))
-
 add-next : tie.Need-add-next
-add-next c = let k = fits (c .before) in omega (arith, c .entry-len .ensures, length-drop (c .before .before .before .before .before .before .before .args .w .at) (c .before .before .before .before .before .before .before .args .content .now))
+add-next c = omega (arith, c .entry-len .ensures, order-split _ _ (c .before .before .before .before .before .before .before .pre .0) (found (c .before)) .within)
 
 add-t17 : tie.Need-add-t17
 add-t17 c = search needs

@@ -3,20 +3,22 @@
 use Prim.Native.Nat.{_-_}
 use native.Mathlib.Omega.{arith}
 use lib.ListN.{length}
-use Rattle.order.specs.Order.{toldBy}
-use Rattle.order.proofs.OrderWalks.{Walking, begun, ended, stepped, stopped}
+use Rattle.definitions.proofs.LogWalks.{orderLog, begun, ended}
+use Rattle.order.specs.Order.{toldBy, wantedAs}
+use Rattle.order.proofs.OrderWalks.{WalkAt, stepped-on, stopped-at}
 use borrow.Author.Needs.{needs}
 use Rattle.order.proofs.walk_order.Statement.{statement}
 use Rattle.order.proofs.walk_order.Tie as tie
 
 abbrev Inv-loop : tie.InvT-loop
-Inv-loop content want w₀ w = Walking content want w
+Inv-loop content want w₀ w = WalkAt content want w
 
 abbrev μ-loop : tie.MeasureT-loop
 μ-loop content want w₀ w = length content - w .at
 
 loop-holds : tie.Need-loop-holds Inv-loop μ-loop
-loop-holds c = begun _ _
+unfolding wantedAs
+loop-holds c = begun orderLog _ _
 
 order-step-requires : tie.Need-order-step-requires Inv-loop μ-loop
 order-step-requires c κs = omega arith
@@ -25,21 +27,21 @@ enum-known-next : tie.Need-enum-known-next Inv-loop μ-loop
 enum-known-next c = search needs
 
 loop-less : tie.Need-loop-less Inv-loop μ-loop
-loop-less c = let k = stepped (c .before .before .before .before .before .before .before .before .args .content .now) (c .before .before .before .before .before .before .before .before .args .want) (c .before .before .before .before .before .before .loop .w) (c .before .before .before .before .before .before .loop .inv) (omega arith) (c .before .next .given .0 .0) (rw (c .before .next .given .1) at (c .before .before .before .order-step .ensures)) in omega arith
+loop-less c = let k = stepped-on _ _ (c .before .before .before .before .before .before .loop .w) (c .before .before .before .before .before .before .loop .inv) (omega arith) _ (rw (c .before .next .given .1) at (c .before .before .before .order-step .ensures)) in omega arith
 
 loop-again : tie.Need-loop-again Inv-loop μ-loop
-loop-again c = stepped (c .before .before .before .before .before .before .before .before .args .content .now) (c .before .before .before .before .before .before .before .before .args .want) (c .before .before .before .before .before .before .loop .w) (c .before .before .before .before .before .before .loop .inv) (omega arith) (c .before .next .given .0 .0) (rw (c .before .next .given .1) at (c .before .before .before .order-step .ensures)) .0
+loop-again c = stepped-on _ _ (c .before .before .before .before .before .before .loop .w) (c .before .before .before .before .before .before .loop .inv) (omega arith) _ (rw (c .before .next .given .1) at (c .before .before .before .order-step .ensures)) .0
 
 enum-told : tie.Need-enum-told Inv-loop μ-loop
 enum-told c = search needs
 
 returns : tie.Need-returns Inv-loop μ-loop
 unfolding toldBy
-returns c = stopped (c .before .before .before .before .before .before .before .args .content .now) (c .before .before .before .before .before .before .before .args .want) (c .before .before .before .before .before .loop .w) (c .before .before .before .before .before .loop .inv) (omega arith) (rw (c .enum-told .given .1) at (c .before .before .order-step .ensures))
+returns c = stopped-at _ _ (c .before .before .before .before .before .loop .w) (c .before .before .before .before .before .loop .inv) (omega arith) (rw (c .enum-told .given .1) at (c .before .before .order-step .ensures))
 
 returns-2 : tie.Need-returns-2 Inv-loop μ-loop
-unfolding toldBy
-returns-2 c = ended (c .before .before .before .before .args .content .now) (c .before .before .before .before .args .want) (c .before .before .loop .w) (c .before .before .loop .inv) (omega arith)
+unfolding toldBy wantedAs
+returns-2 c = ended orderLog _ _ (c .before .before .loop .inv) (omega arith)
 
 pub walk-order-spec : {M : Type 1} → statement M
 walk-order-spec =

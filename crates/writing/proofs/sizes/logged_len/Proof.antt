@@ -7,10 +7,10 @@ use mathlib.Core.Option.{none, some}
 use lib.ListN.{length, drop}
 use Rattle.definitions.proofs.Orders.{orderFront}
 use Rattle.definitions.proofs.Lists.{to-end}
-use Rattle.definitions.proofs.LogSteps.{OrderEntry, order-split, order-stop}
+use Rattle.definitions.proofs.LogSteps.{OrderEntry, order-split, order-never}
 use Rattle.order.specs.Order.{placedAs, frontAs}
 use Rattle.writing.specs.Walks.{filledOf}
-use Rattle.writing.proofs.Tallying.{Logging, logging-begun, logging-step, logging-ended, never-none}
+use Rattle.writing.proofs.Tallying.{Logging, logging-begun, logging-step, logging-ended}
 use borrow.Author.Needs.{needs}
 use Rattle.writing.proofs.sizes.logged_len.Statement.{statement}
 use Rattle.writing.proofs.sizes.logged_len.Tie as tie
@@ -22,7 +22,7 @@ abbrev μ-loop : tie.MeasureT-loop
 μ-loop table index rows received set order at₀ t₀ at t = length order - at
 
 loop-holds : tie.Need-loop-holds Inv-loop μ-loop
-loop-holds c = logging-begun _ _
+loop-holds c = logging-begun _ _ (c .before .before .before .before .before .before .pre .2)
 
 sub-front-at : tie.Need-sub-front-at Inv-loop μ-loop
 sub-front-at c = search needs
@@ -47,7 +47,7 @@ split : (c : tie.After-known-told Inv-loop μ-loop) → OrderEntry (c .before .b
 split c = order-split (c .before .before .before .before .before .before .before .before .before .before .before .before .before .args .order .now) (c .before .before .before .before .before .before .loop .at) (c .before .before .before .before .before .loop-test .taken) (front c)
 
 with-entry-requires : tie.Need-with-entry-requires Inv-loop μ-loop
-with-entry-requires c κs = (c .before .before .before .before .before .before .before .before .before .before .before .before .before .pre .0, omega (arith, c .before .before .before .before .before .before .loop .inv .few, c .before .before .before .before .before .before .loop .inv .inside, c .before .before .before .before .before .before .before .before .before .before .before .before .before .pre .1))
+with-entry-requires c κs = (c .before .before .before .before .before .before .before .before .before .before .before .before .before .pre .0, omega (arith, c .before .before .before .before .before .before .loop .inv .few, c .before .before .before .before .before .before .loop .inv .here .inside, c .before .before .before .before .before .before .before .before .before .before .before .before .before .pre .1))
 
 entry-len-requires : tie.Need-entry-len-requires Inv-loop μ-loop
 entry-len-requires c κs = search needs
@@ -59,7 +59,7 @@ loop-less : tie.Need-loop-less Inv-loop μ-loop
 loop-less c = omega (arith, c .entry-len .ensures, split (c .before .before) .octet, split (c .before .before) .within)
 
 loop-again : tie.Need-loop-again Inv-loop μ-loop
-loop-again c = rw (c .entry-len .ensures) (logging-step (filledOf (c .before .before .before .before .before .before .before .before .before .before .before .before .before .before .before .args .table .now) (c .before .before .before .before .before .before .before .before .before .before .before .before .before .before .before .args .rows .now) (c .before .before .before .before .before .before .before .before .before .before .before .before .before .before .before .args .received .now) (c .before .before .before .before .before .before .before .before .before .before .before .before .before .before .before .args .set .now)) (c .before .before .before .before .before .before .before .before .before .before .before .before .before .before .before .args .order .now) (c .before .before .before .before .before .before .before .before .loop .at) (c .before .before .before .before .before .before .before .before .loop .t) (c .before .before .before .before .before .before .before .before .loop .inv) (split (c .before .before)) (c .before .with-entry .ensures))
+loop-again c = rw (c .entry-len .ensures) (logging-step (filledOf (c .before .before .before .before .before .before .before .before .before .before .before .before .before .before .before .args .table .now) (c .before .before .before .before .before .before .before .before .before .before .before .before .before .before .before .args .rows .now) (c .before .before .before .before .before .before .before .before .before .before .before .before .before .before .before .args .received .now) (c .before .before .before .before .before .before .before .before .before .before .before .before .before .before .before .args .set .now)) (c .before .before .before .before .before .before .before .before .before .before .before .before .before .before .before .args .order .now) (c .before .before .before .before .before .before .before .before .loop .at) (c .before .before .before .before .before .before .before .before .loop .t) (c .before .before .before .before .before .before .before .before .loop .inv) (c .before .before .before .before .before .before .before .loop-test .taken) (front (c .before .before)) (c .before .with-entry .ensures))
 
 enum-told : tie.Need-enum-told Inv-loop μ-loop
 enum-told c = search needs
@@ -67,8 +67,7 @@ enum-told c = search needs
 returns : tie.Need-returns Inv-loop μ-loop
 returns c =
     let e : orderFront (drop (c .before .before .before .before .before .loop .at) (c .before .before .before .before .before .before .before .before .before .before .before .before .args .order .now)) ≡ none = sym (ap frontAs (sym (c .enum-told .given .1)) ∙ rw to-end at (c .before .before .front-at .ensures)) in
-    let n = c .before .before .before .before .before .loop .inv .bad (order-stop (c .before .before .before .before .before .before .before .before .before .before .before .before .args .order .now) (c .before .before .before .before .before .loop .at) (c .before .before .before .before .loop-test .taken) e) in
-    absurd (never-none (sym n ∙ c .before .before .before .before .before .before .before .before .before .before .before .before .pre .2 .formed))
+    absurd (order-never _ _ (c .before .before .before .before .loop-test .taken) (c .before .before .before .before .before .loop .inv .here) e)
 
 returns-2 : tie.Need-returns-2 Inv-loop μ-loop
 returns-2 c = logging-ended (filledOf (c .before .before .before .before .before .before .before .before .args .table .now) (c .before .before .before .before .before .before .before .before .args .rows .now) (c .before .before .before .before .before .before .before .before .args .received .now) (c .before .before .before .before .before .before .before .before .args .set .now)) (c .before .before .before .before .before .before .before .before .args .order .now) (c .before .loop .at) (c .before .loop .t) (c .before .loop .inv) (c .loop-test .left)
