@@ -146,13 +146,7 @@ pub(crate) fn logged_len<'a>(
 }
 
 // One look at a place.
-fn look<'a>(
-    table: &[u32],
-    rows: &[u32],
-    received: &'a [u8],
-    set: &'a [u8],
-    place: usize,
-) -> Looked
+fn look<'a>(table: &[u32], rows: &[u32], received: &'a [u8], set: &'a [u8], place: usize) -> Looked
     requires { ⌜ (firstBad (rowsOf (now table)) ≡ none) × (length (now received) ≤ 65535) × (length (now set) ≤ 65535) ⌝ }
     ensures { λ r. ⌜ LookedAt (filledOf (now (table .entry)) (now (rows .entry)) (now (received .entry)) (now (set .entry))) place r ⌝ }
 {

@@ -86,12 +86,13 @@ fn put_first<'a>(
     }
     let n = numbers_at(table, place);
     let value = value_octets(received, set, row);
-    at + put_ie(
-        &mut output[at..],
-        form_of(n.code, n.size),
-        n.first as u8,
-        value,
-    )
+    at
+        + put_ie(
+            &mut output[at..],
+            form_of(n.code, n.size),
+            n.first as u8,
+            value,
+        )
 }
 
 // The added elements from a place on, up to another, ascending and each under its first IEI; the position behind them.
