@@ -34,7 +34,8 @@ slice-aggregate-result-3 : tie.Need-slice-aggregate-result-3
 slice-aggregate-result-3 c = search needs
 
 returns : tie.Need-returns
-returns c = rw (← (ap gotAs (sym (c .before .before .start .given .1)) ∙ c .before .before .before .before .kept-get .ensures)) (c .part .ensures)
+returns c =
+    rw (← (ap gotAs (sym (c .before .before .start .given .1)) ∙ c .before .before .before .before .kept-get .ensures)) (c .part .ensures)
 
 returns-2 : tie.Need-returns-2
 returns-2 c = rw (← (ap gotAs (sym (c .before .enum-told .given .1)) ∙ c .before .before .before .kept-get .ensures)) (refl, tt)
