@@ -66,10 +66,10 @@ cast-put-ie : tie.Need-cast-put-ie
 cast-put-ie c = let o : c .before .before .before .before .numbers-at .result .first < 256 = bears-octet (form (rowAt (rowsOf (c .before .before .before .before .before .before .before .before .before .before .before .before .before .before .before .args .table .now)) (c .before .before .before .before .before .before .before .before .before .before .before .before .before .before .before .args .place))) (c .before .before .before .before .numbers-at .result .first) (bears (c .before .before .before .before)) in omega arith
 
 piece : (c : tie.After-form-of) → addedPiece (filledOf (c .before .before .before .before .before .before .before .before .before .before .before .before .before .before .args .table .now) (c .before .before .before .before .before .before .before .before .before .before .before .before .before .before .args .rows .now) (c .before .before .before .before .before .before .before .before .before .before .before .before .before .before .args .received .now) (c .before .before .before .before .before .before .before .before .before .before .before .before .before .before .args .set .now)) (setOf (c .before .before .before .before .before .before .before .before .before .before .before .before .before .before .args .seen)) (c .before .before .before .before .before .before .before .before .before .before .before .before .before .before .args .place) ≡ encoded (formAs (c .form-of .result)) (c .before .before .before .numbers-at .result .first) (c .before .before .value-octets .result .now)
-piece c = first-piece (c .before .before .before) ∙ piece-there (c .before .before .before .before .before .before .before .before .before .before .before .before .before .before .args .table .now) (c .before .before .before .before .before .before .before .before .before .before .before .before .before .before .args .rows .now) (c .before .before .before .before .before .before .before .before .before .before .before .before .before .before .args .received .now) (c .before .before .before .before .before .before .before .before .before .before .before .before .before .before .args .set .now) (c .before .before .before .before .before .before .before .before .before .before .before .before .before .before .args .place) (c .before .before .before .numbers-at .result .first) (c .before .before .before .before .before .before .before .before .row-at .result) (c .before .before .before .before .before .before .before .before .row-at .ensures) (c .before .before .before .before .before .before .if1 .left) (form-there (c .before .before .before .before .before .before .before .before .before .before .before .before .before .before .args .table .now) (c .before .before .before .before .before .before .before .before .before .before .before .before .before .before .args .place) (c .before .before .before .before .before .before .before .before .before .before .before .before .before .before .pre .0 .passes) (c .before .before .before .numbers-at .ensures) (c .form-of .ensures)) (c .before .before .value-octets .ensures)
+piece c = first-piece (c .before .before .before) ∙ piece-there (c .before .before .before .before .before .before .before .before .before .before .before .before .before .before .args .table .now) (c .before .before .before .before .before .before .before .before .before .before .before .before .before .before .args .rows .now) (c .before .before .before .before .before .before .before .before .before .before .before .before .before .before .args .received .now) (c .before .before .before .before .before .before .before .before .before .before .before .before .before .before .args .set .now) (c .before .before .before .before .before .before .before .before .before .before .before .before .before .before .args .place) (c .before .before .before .numbers-at .result .first) (c .before .before .before .before .before .before .before .before .row-at .result) (c .before .before .before .before .before .before .before .before .row-at .ensures) (c .before .before .before .before .before .before .if1 .left) (form-there (c .before .before .before .before .before .before .before .before .before .before .before .before .before .before .args .table .now) (c .before .before .before .before .before .before .before .before .before .before .before .before .before .before .args .place) (c .before .before .before .before .before .before .before .before .before .before .before .before .before .before .pre .0 .passes) (c .before .before .before .numbers-at .ensures) (c .form-of .ensures)) (c .before .before .value-octets .ensures .0)
 
 put-ie-requires : tie.Need-put-ie-requires
-put-ie-requires c κs = (writes-there (c .before .before .before .before .before .before .before .before .before .before .before .before .before .before .before .args .table .now) (c .before .before .before .before .before .before .before .before .before .before .before .before .before .before .before .args .rows .now) (c .before .before .before .before .before .before .before .before .before .before .before .before .before .before .before .args .received .now) (c .before .before .before .before .before .before .before .before .before .before .before .before .before .before .before .args .set .now) (c .before .before .before .before .before .before .before .before .before .before .before .before .before .before .before .args .place) (c .before .before .before .before .numbers-at .result .first) (c .before .before .before .before .before .before .before .before .before .row-at .result) (c .before .before .before .before .before .before .before .before .before .row-at .ensures) (c .before .before .before .before .before .before .before .if1 .left) (c .before .before .before .before .before .before .before .before .before .before .before .before .before .before .before .pre .0) (c .before .before .before .before .before .before .before .before .before .before .before .before .before .before .before .pre .1) (bears (c .before .before .before .before)) (form-there (c .before .before .before .before .before .before .before .before .before .before .before .before .before .before .before .args .table .now) (c .before .before .before .before .before .before .before .before .before .before .before .before .before .before .before .args .place) (c .before .before .before .before .before .before .before .before .before .before .before .before .before .before .before .pre .0 .passes) (c .before .before .before .before .numbers-at .ensures) (c .before .form-of .ensures)) (c .before .before .before .value-octets .ensures), simp (length-take, length-drop) (omega (arith, c .before .before .before .before .before .before .before .before .before .before .before .before .before .before .before .pre .2, ap length (piece (c .before)))))
+put-ie-requires c κs = (writes-there (c .before .before .before .before .before .before .before .before .before .before .before .before .before .before .before .args .table .now) (c .before .before .before .before .before .before .before .before .before .before .before .before .before .before .before .args .rows .now) (c .before .before .before .before .before .before .before .before .before .before .before .before .before .before .before .args .received .now) (c .before .before .before .before .before .before .before .before .before .before .before .before .before .before .before .args .set .now) (c .before .before .before .before .before .before .before .before .before .before .before .before .before .before .before .args .place) (c .before .before .before .before .numbers-at .result .first) (c .before .before .before .before .before .before .before .before .before .row-at .result) (c .before .before .before .before .before .before .before .before .before .row-at .ensures) (c .before .before .before .before .before .before .before .if1 .left) (c .before .before .before .before .before .before .before .before .before .before .before .before .before .before .before .pre .0) (c .before .before .before .before .before .before .before .before .before .before .before .before .before .before .before .pre .1) (bears (c .before .before .before .before)) (form-there (c .before .before .before .before .before .before .before .before .before .before .before .before .before .before .before .args .table .now) (c .before .before .before .before .before .before .before .before .before .before .before .before .before .before .before .args .place) (c .before .before .before .before .before .before .before .before .before .before .before .before .before .before .before .pre .0 .passes) (c .before .before .before .before .numbers-at .ensures) (c .before .form-of .ensures)) (c .before .before .before .value-octets .ensures .0), simp (length-take, length-drop) (omega (arith, c .before .before .before .before .before .before .before .before .before .before .before .before .before .before .before .pre .2, ap length (piece (c .before)))))
 
 add-result : tie.Need-add-result
 add-result c = omega (arith, c .before .before .before .before .before .before .before .before .before .before .before .before .before .before .before .before .before .before .good, c .before .before .before .before .before .before .before .before .before .before .before .before .before .before .before .before .before .before .pre .2, c .before .before .put-ie .ensures .takes, ap length (piece (c .before .before .before .before)))
