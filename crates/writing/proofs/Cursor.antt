@@ -4,17 +4,17 @@ use Prim.Native.Nat.{ℕ, zero, suc, _+_, _-_, _≤_, _<_, max}
 use native.Mathlib.Omega.{arith}
 use native.Mathlib.Numerals.{add-one}
 use mathlib.Core.Path.{_≡_, refl, ap, ap₂, sym, _∙_}
-use mathlib.Core.List.{List, [], _∷_, _++_, append-assoc}
+use mathlib.Core.List.{List, [], _∷_, _++_, append-nil, append-assoc}
 use mathlib.Core.Bool.{Bool, true, false, _&&_, not}
 use mathlib.Core.Option.{Option, none, some}
 use borrow.Author.Tests.{ltb-true, ltb-false, lt-ltb, le-ltb}
 use lib.ListN.{length}
 use lib.Dec.{ltb}
 use Rattle.definitions.specs.Basic.{pick, bit, among, concat}
-use Rattle.definitions.specs.Rows.{form, rowAt, firstIei, firstBad, placeOf}
-use Rattle.definitions.specs.Values.{valueAt, present, octetsAt}
+use Rattle.definitions.specs.Rows.{firstIei, firstBad, placeOf}
+use Rattle.definitions.specs.Values.{valueAt, present}
 use Rattle.definitions.specs.Logs.{Placed, knownIei, notKnown, ignored}
-use Rattle.definitions.specs.Writing.{Filled, encoded, elementAt, logged, addedFrom, below, notBelow, firsts, walked, written}
+use Rattle.definitions.specs.Writing.{Filled, elementAt, logged, addedFrom, below, notBelow, firsts, walked, written}
 use Rattle.definitions.proofs.RowLaws.{listed}
 use Rattle.definitions.proofs.LogSteps.{restOf, keptAfter}
 use Rattle.writing.specs.Walks.{addedIn, addedPiece, addedOctets, nextOf, knownPiece, knownPlace, pieceOf, placeAfter, leftOf}
@@ -22,59 +22,63 @@ use Rattle.writing.specs.Walks.{addedIn, addedPiece, addedOctets, nextOf
 module _ (m : Filled) (s : ℕ) where
   -- ---- a place at a time
 
-  -- nothing of an absent or a logged place; of another its element under its first IEI
+  -- the element of a place in the set under its first IEI; nothing of another
   module _ (k : ℕ) where
-    pub piece-added : bit k s ≡ false → addedPiece m s k ≡ elementAt m k (firstIei (m .table) k)
+    pub piece-added : bit k s ≡ true → addedPiece m s k ≡ elementAt m k (firstIei (m .table) k)
     unfolding addedPiece
     piece-added e = rw e
 
-    pub piece-logged : bit k s ≡ true → addedPiece m s k ≡ []
+    pub piece-not : bit k s ≡ false → addedPiece m s k ≡ []
     unfolding addedPiece
-    piece-logged e = rw e
+    piece-not e = rw e
 
-    pub piece-absent : elementAt m k (firstIei (m .table) k) ≡ [] → addedPiece m s k ≡ []
-    unfolding addedPiece
-    piece-absent e = rw e (by (bit k s))
-      where
-        by : (b : Bool) → pick {X = List ℕ} b [] [] ≡ []
-        by true = refl
-        by false = refl
-
-  added-step : (k n : ℕ) → firsts m (addedIn m s k (suc n)) ≡ addedPiece m s k ++ firsts m (addedIn m s (suc k) n)
-  unfolding addedPiece addedIn firsts elementAt
-  added-step k n = by (present (valueAt (m .rows) k)) (bit k s) refl
+  added-step : (k n : ℕ) → firsts m (addedIn s k (suc n)) ≡ addedPiece m s k ++ firsts m (addedIn s (suc k) n)
+  unfolding addedPiece addedIn firsts
+  added-step k n = by (bit k s)
     where
-      e : List ℕ
-      e = encoded (form (rowAt (m .table) k)) (firstIei (m .table) k) (octetsAt (m .octets) (valueAt (m .rows) k))
-
       rest : List ℕ
-      rest = addedIn m s (suc k) n
+      rest = addedIn s (suc k) n
 
-      by : (p b : Bool) → present (valueAt (m .rows) k) ≡ p → firsts m (pick (p && not b) (k ∷ rest) rest) ≡ pick b [] (pick p e []) ++ firsts m rest
-      by true true q = refl
-      by true false q = rw q
-      by false true q = refl
-      by false false q = refl
+      by : (b : Bool) → firsts m (pick b (k ∷ rest) rest) ≡ pick b (elementAt m k (firstIei (m .table) k)) [] ++ firsts m rest
+      by true = refl
+      by false = refl
 
   pub added-next : (k to : ℕ) → k < to → addedOctets m s k to ≡ addedPiece m s k ++ addedOctets m s (k + 1) to
   unfolding addedOctets
   added-next k to h =
       let next : to - k ≡ suc (to - (k + 1)) = omega arith in
-      ap (λ (n : ℕ). firsts m (addedIn m s k n)) next ∙ added-step k (to - (k + 1))
-      ∙ ap (λ (j : ℕ). addedPiece m s k ++ firsts m (addedIn m s j (to - (k + 1)))) (sym (add-one k))
+      ap (λ (n : ℕ). firsts m (addedIn s k n)) next ∙ added-step k (to - (k + 1))
+      ∙ ap (λ (j : ℕ). addedPiece m s k ++ firsts m (addedIn s j (to - (k + 1)))) (sym (add-one k))
 
   pub added-end : (k to : ℕ) → to ≤ k → addedOctets m s k to ≡ []
   unfolding addedOctets addedIn firsts
   added-end k to h = let z : to - k ≡ 0 = omega arith in rw z
 
-  -- ---- the added places by a place that rises
+  -- with a place more at the end
+  snoc : (k n : ℕ) → firsts m (addedIn s k (suc n)) ≡ firsts m (addedIn s k n) ++ addedPiece m s (k + n)
+  unfolding addedIn firsts
+  snoc k zero =
+      let z : k + 0 ≡ k = omega arith in
+      added-step k 0 ∙ append-nil (addedPiece m s k) ∙ ap (addedPiece m s) (sym z)
+  snoc k (suc n) =
+      let z : suc k + n ≡ k + suc n = omega arith in
+      added-step k (suc n) ∙ ap (λ (x : List ℕ). addedPiece m s k ++ x) (snoc (suc k) n)
+      ∙ sym (append-assoc (addedPiece m s k) (firsts m (addedIn s (suc k) n)) (addedPiece m s (suc k + n)))
+      ∙ ap₂ _++_ (sym (added-step k n)) (ap (addedPiece m s) z)
 
-  abbrev take′ : ℕ → Bool
-  take′ c = present (valueAt (m .rows) c) && not (bit c s)
+  pub added-more : (k : ℕ) → addedOctets m s 0 (k + 1) ≡ addedOctets m s 0 k ++ addedPiece m s k
+  unfolding addedOctets
+  added-more k =
+      let z : k + 1 - 0 ≡ suc k = omega arith in
+      let y : k ≡ k - 0 = omega arith in
+      let x : 0 + k ≡ k = omega arith in
+      ap (λ (j : ℕ). firsts m (addedIn s 0 j)) z ∙ snoc 0 k ∙ ap₂ (λ (j i : ℕ). firsts m (addedIn s 0 j) ++ addedPiece m s i) y x
+
+  -- ---- the added places by a place that rises
 
   module _ (n c k : ℕ) where
     rest : List ℕ
-    rest = addedIn m s (suc c) n
+    rest = addedIn s (suc c) n
 
     below-more : (p : Bool) {next : List ℕ} → c < k → below k rest ≡ next → below k (pick p (c ∷ rest) rest) ≡ pick p (c ∷ next) next
     unfolding below
@@ -96,41 +100,41 @@ module _ (m : Filled) (s : ℕ) where
     not-below-more true h r = rw (le-ltb c k h, r)
     not-below-more false h r = r
 
-  pub below-in : (n c k : ℕ) → k ≤ c + n → below k (addedIn m s c n) ≡ addedIn m s c (k - c)
+  pub below-in : (n c k : ℕ) → k ≤ c + n → below k (addedIn s c n) ≡ addedIn s c (k - c)
   unfolding below addedIn rest
   below-in zero c k h = let z : k - c ≡ 0 = omega arith in rw z
   below-in (suc n) c k h = by (ltb c k) refl (below-in n (suc c) k (omega arith))
     where
-      by : (b : Bool) → ltb c k ≡ b → below k (addedIn m s (suc c) n) ≡ addedIn m s (suc c) (k - suc c) → below k (addedIn m s c (suc n)) ≡ addedIn m s c (k - c)
+      by : (b : Bool) → ltb c k ≡ b → below k (addedIn s (suc c) n) ≡ addedIn s (suc c) (k - suc c) → below k (addedIn s c (suc n)) ≡ addedIn s c (k - c)
       by true e r =
           let l = ltb-true c k e in
           let z : k - c ≡ suc (k - suc c) = omega arith in
-          below-more n c k (take′ c) l r ∙ ap (λ (j : ℕ). addedIn m s c j) (sym z)
+          below-more n c k (bit c s) l r ∙ ap (λ (j : ℕ). addedIn s c j) (sym z)
       by false e r =
           let l = ltb-false c k e in
           let z : k - suc c ≡ 0 = omega arith in
           let y : k - c ≡ 0 = omega arith in
-          below-none n c k (take′ c) l (r ∙ ap (λ (j : ℕ). addedIn m s (suc c) j) z) ∙ ap (λ (j : ℕ). addedIn m s c j) (sym y)
+          below-none n c k (bit c s) l (r ∙ ap (λ (j : ℕ). addedIn s (suc c) j) z) ∙ ap (λ (j : ℕ). addedIn s c j) (sym y)
 
-  pub not-below-in : (n c k : ℕ) → k ≤ c + n → notBelow k (addedIn m s c n) ≡ addedIn m s (max c k) (c + n - max c k)
+  pub not-below-in : (n c k : ℕ) → k ≤ c + n → notBelow k (addedIn s c n) ≡ addedIn s (max c k) (c + n - max c k)
   unfolding notBelow addedIn rest
-  not-below-in zero c k h = let z : c + 0 - max c k ≡ 0 = omega arith in ap (λ (j : ℕ). addedIn m s (max c k) j) (sym z)
+  not-below-in zero c k h = let z : c + 0 - max c k ≡ 0 = omega arith in ap (λ (j : ℕ). addedIn s (max c k) j) (sym z)
   not-below-in (suc n) c k h = by (ltb c k) refl (not-below-in n (suc c) k (omega arith))
     where
-      by : (b : Bool) → ltb c k ≡ b → notBelow k (addedIn m s (suc c) n) ≡ addedIn m s (max (suc c) k) (suc c + n - max (suc c) k)
-          → notBelow k (addedIn m s c (suc n)) ≡ addedIn m s (max c k) (c + suc n - max c k)
+      by : (b : Bool) → ltb c k ≡ b → notBelow k (addedIn s (suc c) n) ≡ addedIn s (max (suc c) k) (suc c + n - max (suc c) k)
+          → notBelow k (addedIn s c (suc n)) ≡ addedIn s (max c k) (c + suc n - max c k)
       by true e r =
           let l = ltb-true c k e in
           let x : max (suc c) k ≡ max c k = omega arith in
           let y : suc c + n - max (suc c) k ≡ c + suc n - max c k = omega arith in
-          not-below-passed n c k (take′ c) l ∙ r ∙ ap₂ (λ (i j : ℕ). addedIn m s i j) x y
+          not-below-passed n c k (bit c s) l ∙ r ∙ ap₂ (λ (i j : ℕ). addedIn s i j) x y
       by false e r =
           let l = ltb-false c k e in
           let x : max (suc c) k ≡ suc c = omega arith in
           let y : suc c + n - max (suc c) k ≡ n = omega arith in
           let x′ : max c k ≡ c = omega arith in
           let y′ : c + suc n - max c k ≡ suc n = omega arith in
-          not-below-more n c k (take′ c) l (r ∙ ap₂ (λ (i j : ℕ). addedIn m s i j) x y) ∙ ap₂ (λ (i j : ℕ). addedIn m s i j) (sym x′) (sym y′)
+          not-below-more n c k (bit c s) l (r ∙ ap₂ (λ (i j : ℕ). addedIn s i j) x y) ∙ ap₂ (λ (i j : ℕ). addedIn s i j) (sym x′) (sym y′)
 
   -- ---- what is left to write
 
@@ -141,31 +145,31 @@ module _ (m : Filled) (s : ℕ) where
     -- over a known entry
     left-known : (i : ℕ) (o : Option ℕ) → placeOf (m .table) i ≡ o
         → elim o [
-          | none ↦ walked m ps (addedIn m s from (n - from)) ks
-          | some k ↦ firsts m (below k (addedIn m s from (n - from))) ++ (elementAt m k i ++ walked m ps (notBelow k (addedIn m s from (n - from))) ks)
+          | none ↦ walked m ps (addedIn s from (n - from)) ks
+          | some k ↦ firsts m (below k (addedIn s from (n - from))) ++ (elementAt m k i ++ walked m ps (notBelow k (addedIn s from (n - from))) ks)
         ]
-        ≡ knownPiece m s i from o ++ walked m ps (addedIn m s (knownPlace from o) (n - knownPlace from o)) ks
+        ≡ knownPiece m s i from o ++ walked m ps (addedIn s (knownPlace from o) (n - knownPlace from o)) ks
     unfolding addedOctets
     left-known i none e = refl
     left-known i (some k) e =
         let h : k < n = listed (m .table) i k passes e .inside in
         let z : from + (n - from) ≡ n = omega arith in
-        let a : below k (addedIn m s from (n - from)) ≡ addedIn m s from (k - from) = below-in (n - from) from k (omega arith) in
-        let b : notBelow k (addedIn m s from (n - from)) ≡ addedIn m s (max from k) (n - max from k) =
-        not-below-in (n - from) from k (omega arith) ∙ ap (λ (j : ℕ). addedIn m s (max from k) (j - max from k)) z in
-        rw (a, b) (sym (append-assoc (firsts m (addedIn m s from (k - from))) (elementAt m k i) (walked m ps (addedIn m s (max from k) (n - max from k)) ks)))
+        let a : below k (addedIn s from (n - from)) ≡ addedIn s from (k - from) = below-in (n - from) from k (omega arith) in
+        let b : notBelow k (addedIn s from (n - from)) ≡ addedIn s (max from k) (n - max from k) =
+        not-below-in (n - from) from k (omega arith) ∙ ap (λ (j : ℕ). addedIn s (max from k) (j - max from k)) z in
+        rw (a, b) (sym (append-assoc (firsts m (addedIn s from (k - from))) (elementAt m k i) (walked m ps (addedIn s (max from k) (n - max from k)) ks)))
 
     pub left-step : (p : Placed) → leftOf m s (p ∷ ps) from ks ≡ pieceOf m s p from ks ++ leftOf m s ps (placeAfter (m .table) p from) (keptAfter p ks)
     unfolding leftOf pieceOf placeAfter keptAfter walked nextOf restOf
     left-step (knownIei i) = left-known i (placeOf (m .table) i) refl
     left-step notKnown = aside ks
       where
-        aside : (ks : List (List ℕ)) → walked m (notKnown ∷ ps) (addedIn m s from (n - from)) ks ≡ nextOf ks ++ walked m ps (addedIn m s from (n - from)) (restOf ks)
+        aside : (ks : List (List ℕ)) → walked m (notKnown ∷ ps) (addedIn s from (n - from)) ks ≡ nextOf ks ++ walked m ps (addedIn s from (n - from)) (restOf ks)
         aside [] = refl
         aside (e ∷ es) = refl
     left-step (ignored r) = aside ks
       where
-        aside : (ks : List (List ℕ)) → walked m (ignored r ∷ ps) (addedIn m s from (n - from)) ks ≡ nextOf ks ++ walked m ps (addedIn m s from (n - from)) (restOf ks)
+        aside : (ks : List (List ℕ)) → walked m (ignored r ∷ ps) (addedIn s from (n - from)) ks ≡ nextOf ks ++ walked m ps (addedIn s from (n - from)) (restOf ks)
         aside [] = refl
         aside (e ∷ es) = refl
 
@@ -185,15 +189,29 @@ module _ (m : Filled) (s : ℕ) where
   unfolding leftOf walked addedOctets
   left-end from ks = refl
 
-  -- all of it, by the set of the logged places
-  added-in : (js : List ℕ) → ((k : ℕ) → among k js ≡ bit k s) → (k n : ℕ) → addedFrom m js k n ≡ addedIn m s k n
-  unfolding addedFrom addedIn
-  added-in js h k zero = refl
-  added-in js h k (suc n) = rw (h k, added-in js h (suc k) n)
+  -- all of it, by the set of the added places
+  module _ (js : List ℕ) (h : (k : ℕ) → k < length (m .table) → (present (valueAt (m .rows) k) && not (among k js)) ≡ bit k s) where
+    added-in : (k n : ℕ) → k + n ≤ length (m .table) → addedFrom m js k n ≡ addedIn s k n
+    unfolding addedFrom addedIn
+    added-in k zero l = refl
+    added-in k (suc n) l = rw (h k (omega arith), added-in (suc k) n (omega arith))
 
-  pub written-left : (ps : List Placed) (ks : List (List ℕ)) → ((k : ℕ) → among k (logged (m .table) ps) ≡ bit k s) → written m ps ks ≡ leftOf m s ps 0 ks
+  pub written-left : (ps : List Placed) (ks : List (List ℕ))
+      → ((k : ℕ) → k < length (m .table) → (present (valueAt (m .rows) k) && not (among k (logged (m .table) ps))) ≡ bit k s) → written m ps ks ≡ leftOf m s ps 0 ks
   unfolding written leftOf
-  written-left ps ks h = let z : n ≡ n - 0 = omega arith in ap (λ (a : List ℕ). walked m ps a ks) (added-in (logged (m .table) ps) h 0 n ∙ ap (λ (j : ℕ). addedIn m s 0 j) z)
+  written-left ps ks h =
+      let z : n ≡ n - 0 = omega arith in
+      ap (λ (a : List ℕ). walked m ps a ks) (added-in (logged (m .table) ps) h 0 n (omega arith) ∙ ap (λ (j : ℕ). addedIn s 0 j) z)
+
+-- two sets that are the same below a place
+same-in : (s u k n : ℕ) → ((j : ℕ) → j < k + n → bit j s ≡ bit j u) → addedIn s k n ≡ addedIn u k n
+unfolding addedIn
+same-in s u k zero h = refl
+same-in s u k (suc n) h = rw (h k (omega arith), same-in s u (suc k) n (λ j l. h j (omega arith)))
+
+pub same-octets : (m : Filled) (s u k : ℕ) → ((j : ℕ) → j < k → bit j s ≡ bit j u) → addedOctets m s 0 k ≡ addedOctets m u 0 k
+unfolding addedOctets
+same-octets m s u k h = ap (firsts m) (same-in s u 0 (k - 0) (λ j l. h j (omega arith)))
 
 -- the kept elements, the next one first
 pub next-rest : (ks : List (List ℕ)) → concat ks ≡ nextOf ks ++ concat (restOf ks)

@@ -4,7 +4,7 @@ use Prim.Native.Nat.{ℕ, zero, suc, _+_, _*_, _-_, _≤_, _<_}
 use native.Mathlib.Omega.{arith}
 use mathlib.Core.Path.{_≡_, refl, ap, sym, _∙_}
 use mathlib.Core.List.{List, [], _∷_}
-use mathlib.Core.Bool.{Bool, true, false, _||_, false≢true}
+use mathlib.Core.Bool.{Bool, true, false, _&&_, _||_, not, false≢true}
 use mathlib.Core.Option.{Option, none, some}
 use borrow.Author.Tests.{lt-ltb, le-ltb, ltb-true, ltb-false}
 use lib.ListN.{length, take, length-take}
@@ -13,14 +13,14 @@ use lib.Dec.{ltb}
 use Rattle.definitions.specs.Basic.{pick, among, bit, concat, Answer, answer, over, content, tooLong, mostOctets, mostLog}
 use Rattle.definitions.specs.Rows.{Row, rowsOf, firstBad, index}
 use Rattle.definitions.specs.Logs.{Placed, keptList, orderList, orEmpty}
-use Rattle.definitions.specs.Values.{firstFrom, badRows, unfitAt, valuesTooLong}
+use Rattle.definitions.specs.Values.{valueAt, present, firstFrom, badRows, unfitAt, valuesTooLong}
 use Rattle.definitions.specs.Writing.{Filled, logged, written, unfit, octetsIn, octetsFor, writingChecks, Wrote, writing}
 use Rattle.definitions.proofs.WriteLaws.{unwritten, write-long, write-rows, write-order, write-kept, write-values, write-unfit, write-short, write-done, loggedLength, walked-length}
 use Rattle.definitions.proofs.LogSteps.{keptFrom, KeptAt, orderFrom, OrderAt}
 use Rattle.kept.specs.Kept.{usedOf}
 use Rattle.values.specs.Rows.{sourcesOf}
 use Rattle.writing.specs.Walks.{filledOf, Writable, addedIn, addedOctets, leftOf}
-use Rattle.writing.specs.Sizes.{Tells}
+use Rattle.writing.specs.Sizes.{Tells, AddedAre}
 use Rattle.writing.specs.Encodes.{encodedAs, Encodes, usedUp, Limited}
 use Rattle.writing.specs.declared.encode.Which.{Which}
 use Rattle.writing.specs.declared.encode.Encoded.{Encoded}
@@ -51,24 +51,24 @@ pub order-begins : (order : List ℕ) {ps : List Placed} → orderList order ≡
 unfolding orEmpty
 order-begins order e = e ∙ ap (λ (o : Option (List Placed)). some (orEmpty o)) (sym e)
 
-module _ (m : Filled) (order : List ℕ) (octets s : ℕ) (t : Tells m order octets s []) where
-  -- the set names the logged places
-  pub names : (k : ℕ) → among k (logged (m .table) (t .ps)) ≡ bit k s
+module _ (m : Filled) (order : List ℕ) (octets s a : ℕ) (t : Tells m order octets s []) (added : AddedAre m s a) where
+  -- the set has the added places
+  has-added : (k : ℕ) → k < length (m .table) → (present (valueAt (m .rows) k) && not (among k (logged (m .table) (t .ps)))) ≡ bit k a
   unfolding among logged
-  names k = sym (t .places k)
+  has-added k h = ap (λ (b : Bool). present (valueAt (m .rows) k) && not b) (sym (t .places k)) ∙ sym (added k h)
 
-  left-length : (ps : List Placed) (ks : List (List ℕ)) → length (leftOf m s ps 0 ks) ≡ loggedLength m ps + (length (addedOctets m s 0 (length (m .table))) + length (concat ks))
+  left-length : (ps : List Placed) (ks : List (List ℕ)) → length (leftOf m a ps 0 ks) ≡ loggedLength m ps + (length (addedOctets m a 0 (length (m .table))) + length (concat ks))
   unfolding leftOf addedOctets
-  left-length ps ks = walked-length m ps (addedIn m s 0 (length (m .table) - 0)) ks
+  left-length ps ks = walked-length m ps (addedIn a 0 (length (m .table) - 0)) ks
 
   -- the octets needed are those of all that is written
-  pub needed : (ks : List (List ℕ)) {k a : ℕ} → k ≡ length (concat ks) → a ≡ length (addedOctets m s 0 (length (m .table))) → octets + k + a ≡ length (written m (t .ps) ks)
+  pub needed : (ks : List (List ℕ)) {k n : ℕ} → k ≡ length (concat ks) → n ≡ length (addedOctets m a 0 (length (m .table))) → octets + k + n ≡ length (written m (t .ps) ks)
   unfolding loggedLength
-  needed ks p q = rw (written-left m s (t .ps) ks names) (omega (arith, t .sum, left-length (t .ps) ks))
+  needed ks p q = rw (written-left m a (t .ps) ks has-added) (omega (arith, t .sum, left-length (t .ps) ks))
 
-  pub all-left : (kept : List ℕ) {es : List (List ℕ)} → keptList kept ≡ some es → leftOf m s (orEmpty (orderList order)) 0 (keptFrom kept 0) ≡ written m (t .ps) es
+  pub all-left : (kept : List ℕ) {es : List (List ℕ)} → keptList kept ≡ some es → leftOf m a (orEmpty (orderList order)) 0 (keptFrom kept 0) ≡ written m (t .ps) es
   unfolding orEmpty
-  all-left kept {es = es} q = rw (t .is, kept-is kept q) (sym (written-left m s (t .ps) es names))
+  all-left kept {es = es} q = rw (t .is, kept-is kept q) (sym (written-left m a (t .ps) es has-added))
 
 -- values of which none is unfit
 none-first : (test : ℕ → Bool) (j n k : ℕ) → firstFrom test j n ≡ none → j ≤ k → k < j + n → test k ≡ false

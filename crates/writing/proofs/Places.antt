@@ -64,6 +64,10 @@ module _ (table rows received set : List ℕ) (k : ℕ) (row : ValueRow) (e : va
   unfolding elementAt present
   absent z iei = rw (← e, z)
 
+  pub not-present : row .source ≡ 0 → present (valueAt rows k) ≡ false
+  unfolding present
+  not-present z = rw (← e, z)
+
   pub fits-absent : row .source ≡ 0 → unfitAt (rowsOf table) o rows k ≡ false
   unfolding unfitAt present
   fits-absent z = rw (← e, z)
@@ -71,6 +75,10 @@ module _ (table rows received set : List ℕ) (k : ℕ) (row : ValueRow) (e : va
   module _ (n : row .source ≡ 0 → ⊥) where
     one : 1 ≤ row .source
     one = omega (arith, n)
+
+    pub is-present : present (valueAt rows k) ≡ true
+    unfolding present
+    is-present = rw (← e, le-leb 1 (row .source) one)
 
     pub there : (iei : ℕ) → elementAt (filledOf table rows received set) k iei ≡ encoded (form (rowAt (rowsOf table) k)) iei (octetsAt o (valueOf row))
     unfolding elementAt present

@@ -4,20 +4,25 @@ use Prim.Native.Nat.{ℕ, suc, _+_, _-_, _*_, _≤_, _<_}
 use native.Mathlib.Omega.{arith}
 use native.Mathlib.Numerals.{add-one}
 use mathlib.Core.Path.{_≡_, refl, ap, sym, _∙_}
-use mathlib.Core.List.{[]}
-use mathlib.Core.Bool.{Bool, true, false, not}
+use mathlib.Core.Bool.{Bool, true, false, _&&_, _||_, not}
+use borrow.Author.Tests.{eqb-true, eqb-false}
 use mathlib.Core.Option.{none, some}
 use lib.ListN.{length, length-append}
+use lib.Dec.{eqb}
 use Rattle.definitions.specs.Basic.{pick, bit, isNone}
+use Rattle.definitions.specs.Elements.{including}
 use Rattle.definitions.specs.Rows.{firstIei}
-use Rattle.definitions.specs.Values.{valueAt, goodValue, firstFrom, badRows, unfitAt}
-use Rattle.definitions.specs.Writing.{Filled, elementAt, unfit}
-use Rattle.writing.specs.Walks.{addedPiece, addedOctets}
-use Rattle.writing.specs.Sizes.{placeLength, mostIe, LookedAt, SurveyedBy}
+use Rattle.definitions.specs.Values.{valueAt, present, goodValue, firstFrom, badRows, unfitAt}
+use Rattle.definitions.specs.Writing.{Filled, firsts, unfit}
+use Rattle.definitions.proofs.BitLaws.{bit-including}
+use Rattle.seen.specs.Seen.{setOf, seenOf, includingPlace}
+use Rattle.writing.specs.Walks.{addedIn, addedPiece, addedOctets}
+use Rattle.writing.specs.Sizes.{mostIe, addedTo, LookedAt, SurveyedBy}
 use Rattle.writing.specs.declared.sizes.Looked.{Looked}
 use Rattle.writing.specs.declared.sizes.Surveyed.{Surveyed}
-use Rattle.writing.proofs.Tallying.{any-iei}
-use Rattle.writing.proofs.Cursor.{added-next, added-end}
+use Rattle.writing.specs.declared.sizes.Tally.{Tally}
+use Rattle.writing.proofs.Tallying.{any-iei, bit-zero, set-with}
+use Rattle.writing.proofs.Cursor.{added-more, same-octets, piece-added, piece-not}
 
 -- ---- the first of some numbers at which a test holds
 
@@ -34,6 +39,20 @@ module _ (test : ℕ → Bool) (k n : ℕ) where
   unfolding firstFrom
   first-over h = let z : n - k ≡ 0 = omega arith in rw z
 
+same-eqb : (k : ℕ) → eqb k k ≡ true
+same-eqb k = by (eqb k k) refl
+  where
+    by : (b : Bool) → eqb k k ≡ b → b ≡ true
+    by true q = refl
+    by false q = absurd (eqb-false k k q refl)
+
+other-eqb : (j k : ℕ) → (j ≡ k → ⊥) → eqb j k ≡ false
+other-eqb j k i = by (eqb j k) refl
+  where
+    by : (b : Bool) → eqb j k ≡ b → b ≡ false
+    by true q = absurd (i (eqb-true j k q))
+    by false q = refl
+
 -- ---- the places
 
 module _ (m : Filled) (set : ℕ) where
@@ -46,14 +65,20 @@ module _ (m : Filled) (set : ℕ) where
   abbrev not-fit : ℕ → Bool
   not-fit k = unfitAt (m .table) (m .octets) (m .rows) k
 
-  pub record Surveying (k octets : ℕ) : Type 0 where
+  abbrev wanted : ℕ → Bool
+  wanted k = present (valueAt (m .rows) k) && not (bit k set)
+
+  pub record Surveying (k : ℕ) (t : Tally) : Type 0 where
     pub inside : k ≤ n
-    pub few : octets ≤ mostIe * k
+    pub few : t .octets ≤ mostIe * k
     pub good-before : firstFrom bad k (n - k) ≡ firstFrom bad 0 n
     pub fit-before : firstFrom not-fit k (n - k) ≡ firstFrom not-fit 0 n
-    pub sum : octets + length (addedOctets m set k n) ≡ length (addedOctets m set 0 n)
+    pub bits : (j : ℕ) → j < k → bit j (setOf (t .seen)) ≡ wanted j
+    pub no-bits : (j : ℕ) → k ≤ j → bit j (setOf (t .seen)) ≡ false
+    pub sum : t .octets ≡ length (addedOctets m (setOf (t .seen)) 0 k)
 
-  pub surveying-begun : Surveying 0 0
+  pub surveying-begun : Surveying 0 (record { octets = 0; seen = record { low = 0; high = 0 } })
+  unfolding addedOctets addedIn firsts
   surveying-begun =
       let z : n - 0 ≡ n = omega arith in
       record {
@@ -61,30 +86,19 @@ module _ (m : Filled) (set : ℕ) where
         few = omega arith;
         good-before = ap (firstFrom bad 0) z;
         fit-before = ap (firstFrom not-fit 0) z;
-        sum = omega arith;
+        bits = λ j h. absurd (omega arith);
+        no-bits = λ j h. bit-zero j;
+        sum = refl;
       }
 
-  -- an added element takes what its place takes
-  piece-takes : (k : ℕ) {a l : ℕ} → l ≡ placeLength m k → a ≡ pick (bit k set) 0 l → a ≡ length (addedPiece m set k)
-  unfolding addedPiece
-  piece-takes k {l = l} e q = q ∙ by (bit k set)
-    where
-      by : (b : Bool) → pick b 0 l ≡ length (pick b [] (elementAt m k (firstIei (m .table) k)))
-      by true = refl
-      by false = e ∙ sym (any-iei m k (firstIei (m .table) k))
-
-  few-more : (b : Bool) (l : ℕ) → l ≤ mostIe → pick b 0 l ≤ mostIe
-  few-more true l h = omega arith
-  few-more false l h = h
-
-  module _ (k octets : ℕ) (s : Surveying k octets) where
-    pub surveying-ended : n ≤ k → n ≤ 128 → SurveyedBy m set (Surveyed.Added octets)
+  module _ (k : ℕ) (t : Tally) (s : Surveying k t) where
+    pub surveying-ended : n ≤ k → n ≤ 128 → SurveyedBy m set (Surveyed.Added t)
     unfolding badRows unfit isNone
     surveying-ended h q =
         let e : k ≡ n = omega (arith, s .inside) in
         let g : firstFrom bad 0 n ≡ none = sym (s .good-before) ∙ first-over bad k n h in
         let f : firstFrom not-fit 0 n ≡ none = sym (s .fit-before) ∙ first-over not-fit k n h in
-        (rw g, f, omega (arith, s .sum, ap length (added-end m set k n h)), omega (arith, s .few))
+        (rw g, f, λ j l. s .bits j (omega arith), rw e at (s .sum), omega (arith, s .few))
 
     module _ (h : k < n) where
       pub surveying-bad : goodValue (m .octets) (valueAt (m .rows) k) ≡ false → SurveyedBy m set Surveyed.Malformed
@@ -99,13 +113,53 @@ module _ (m : Filled) (set : ℕ) where
           by true p = p
           by false p = (p, sym (s .fit-before) ∙ first-here not-fit k n h e)
 
-      pub surveying-step : {a l : ℕ} → LookedAt m k (Looked.Takes l) → a ≡ pick (bit k set) 0 l → Surveying (k + 1) (octets + a)
-      surveying-step {a = a} {l = l} t q =
-          let c : a ≤ mostIe = rw q (few-more (bit k set) l (t .3)) in
-          record {
-            inside = omega arith;
-            few = omega (arith, s .few);
-            good-before = first-further bad k n h (rw (t .0)) ∙ s .good-before;
-            fit-before = first-further not-fit k n h (t .1) ∙ s .fit-before;
-            sum = omega (arith, s .sum, piece-takes k (t .2) q, ap length (added-next m set k n h) ∙ length-append (addedPiece m set k) (addedOctets m set (k + 1) n));
-          }
+      -- a place that is well formed and fits, with a set that has it where it is wanted, and is else the same
+      module _ (good : goodValue (m .octets) (valueAt (m .rows) k) ≡ true) (fit : not-fit k ≡ false) (u : Tally)
+          (others : (j : ℕ) → (j ≡ k → ⊥) → bit j (setOf (u .seen)) ≡ bit j (setOf (t .seen))) (here : bit k (setOf (u .seen)) ≡ wanted k)
+          (more : u .octets ≡ t .octets + length (addedPiece m (setOf (u .seen)) k)) (few-more : u .octets ≤ t .octets + mostIe) where
+        bits-more : (j : ℕ) → j < k + 1 → (b : Bool) → eqb j k ≡ b → bit j (setOf (u .seen)) ≡ wanted j
+        bits-more j l true q = rw (eqb-true j k q) here
+        bits-more j l false q = others j (eqb-false j k q) ∙ s .bits j (let z = eqb-false j k q in omega arith)
+
+        same-before : addedOctets m (setOf (t .seen)) 0 k ≡ addedOctets m (setOf (u .seen)) 0 k
+        same-before = same-octets m (setOf (t .seen)) (setOf (u .seen)) k (λ j l. sym (others j (λ z. omega arith)))
+
+        stepped : Surveying (k + 1) u
+        stepped =
+            record {
+              inside = omega arith;
+              few = omega (arith, s .few);
+              good-before = first-further bad k n h (rw good) ∙ s .good-before;
+              fit-before = first-further not-fit k n h fit ∙ s .fit-before;
+              bits = λ j l. bits-more j l (eqb j k) refl;
+              no-bits = λ j l. others j (λ z. omega arith) ∙ s .no-bits j (omega arith);
+              sum = omega (arith, more, s .sum, ap length same-before, ap length (added-more m (setOf (u .seen)) k) ∙ length-append (addedOctets m (setOf (u .seen)) 0 k) (addedPiece m (setOf (u .seen)) k));
+            }
+
+      -- a place that is not wanted changes nothing
+      passed : goodValue (m .octets) (valueAt (m .rows) k) ≡ true → not-fit k ≡ false → wanted k ≡ false → Surveying (k + 1) t
+      passed g f e =
+          let z = s .no-bits k (omega arith) in
+          let l : t .octets ≡ t .octets + length (addedPiece m (setOf (t .seen)) k) = rw (piece-not m (setOf (t .seen)) k z) (omega arith) in
+          stepped g f t (λ j i. refl) (z ∙ sym e) l (omega arith)
+
+      pub surveying-absent : LookedAt m k Looked.Absent → Surveying (k + 1) t
+      unfolding unfitAt
+      surveying-absent a = passed (a .0) (rw (a .1)) (rw (a .1))
+
+      pub surveying-step : k < 128 → {l : ℕ} {u : Tally} → LookedAt m k (Looked.Takes l) → u ≡ addedTo set k l t → Surveying (k + 1) u
+      surveying-step low {l = l} a q = rw q (by (bit k set) refl)
+        where
+          with-it : Tally
+          with-it = record { octets = t .octets + l; seen = seenOf (includingPlace k (setOf (t .seen))) }
+
+          is : setOf (with-it .seen) ≡ including k (setOf (t .seen))
+          is = set-with (t .seen) k low refl
+
+          by : (b : Bool) → bit k set ≡ b → Surveying (k + 1) (pick b t with-it)
+          by true e = passed (a .0) (a .1) (rw (a .2, e))
+          by false e =
+              let b : (j : ℕ) → bit j (setOf (with-it .seen)) ≡ (eqb j k || bit j (setOf (t .seen))) = λ j. ap (bit j) is ∙ bit-including j k (setOf (t .seen)) in
+              let y : bit k (setOf (with-it .seen)) ≡ true = b k ∙ rw (same-eqb k) in
+              let p : l ≡ length (addedPiece m (setOf (with-it .seen)) k) = a .3 ∙ sym (ap length (piece-added m (setOf (with-it .seen)) k y) ∙ any-iei m k (firstIei (m .table) k)) in
+              stepped (a .0) (a .1) with-it (λ j i. b j ∙ rw (other-eqb j k i)) (y ∙ sym (rw (a .2, e))) (ap (λ (j : ℕ). t .octets + j) p) (omega (arith, a .4))

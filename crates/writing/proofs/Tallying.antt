@@ -42,7 +42,7 @@ place-low t iei k p e = (listed t iei k p e .inside, few-places t p)
 set-of : (n : ℕ) → setOf (seenOf n) ≡ n
 set-of n = div-add-mod' n (2 ^ 64)
 
-set-with : (s : Seen) (k : ℕ) {r : Seen} → k < 128 → r ≡ seenOf (includingPlace k (setOf s)) → setOf r ≡ including k (setOf s)
+pub set-with : (s : Seen) (k : ℕ) {r : Seen} → k < 128 → r ≡ seenOf (includingPlace k (setOf s)) → setOf r ≡ including k (setOf s)
 unfolding includingPlace
 set-with s k h e = ap setOf e ∙ set-of _ ∙ rw (lt-ltb k 128 h)
 
@@ -106,7 +106,7 @@ places-more t (ignored r) ps j set = refl
 
 -- ---- the order log
 
-bit-zero : (k : ℕ) → bit k 0 ≡ false
+pub bit-zero : (k : ℕ) → bit k 0 ≡ false
 unfolding bit
 bit-zero k = let z : 0 / 2 ^ k ≡ 0 = zero-div (2 ^ k) in rw z
 

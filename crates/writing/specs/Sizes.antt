@@ -1,18 +1,18 @@
 -- What writing needs to know before an octet is written, by the definitions.
-use Prim.Native.Nat.{ℕ, _+_, _*_, _≤_}
+use Prim.Native.Nat.{ℕ, _+_, _*_, _≤_, _<_}
 use mathlib.Core.Path.{_≡_}
 use mathlib.Core.List.{List, []}
-use mathlib.Core.Bool.{true, false, _||_}
+use mathlib.Core.Bool.{true, false, _&&_, _||_, not}
 use mathlib.Core.Option.{Option, none, some}
 use lib.ListN.{length}
-use Rattle.definitions.specs.Basic.{bit, among}
+use Rattle.definitions.specs.Basic.{pick, bit, among}
 use Rattle.definitions.specs.Rows.{Row, Form, half, fixed, tlv, tlv-e, rowsOf, firstBad, placeOf, index}
 use Rattle.definitions.specs.Elements.{including}
-use Rattle.definitions.specs.Values.{valueAt, goodValue, badRows, unfitAt}
+use Rattle.definitions.specs.Values.{valueAt, present, goodValue, badRows, unfitAt}
 use Rattle.definitions.specs.Logs.{Placed, knownIei, notKnown, ignored, orderList}
 use Rattle.definitions.specs.Writing.{Filled, elementAt, logged, unfit}
 use Rattle.definitions.proofs.WriteLaws.{loggedLength}
-use Rattle.seen.specs.Seen.{setOf}
+use Rattle.seen.specs.Seen.{setOf, seenOf, includingPlace}
 use Rattle.writing.specs.Walks.{addedOctets}
 use Rattle.writing.specs.declared.sizes.Tally.{Tally}
 use Rattle.writing.specs.declared.sizes.Looked.{Looked}
@@ -83,13 +83,23 @@ LoggedBy m order t = (t .octets ≤ mostIe * length order) × Tells m order (t .
 abbrev pub LookedAt : Filled → ℕ → Looked → Type 0
 LookedAt m k Looked.Bad = goodValue (m .octets) (valueAt (m .rows) k) ≡ false
 LookedAt m k Looked.Unfit = unfitAt (m .table) (m .octets) (m .rows) k ≡ true
+LookedAt m k Looked.Absent = (goodValue (m .octets) (valueAt (m .rows) k) ≡ true) × (present (valueAt (m .rows) k) ≡ false)
 LookedAt m k (Looked.Takes n) =
-    (goodValue (m .octets) (valueAt (m .rows) k) ≡ true) × (unfitAt (m .table) (m .octets) (m .rows) k ≡ false) × (n ≡ placeLength m k) × (n ≤ mostIe)
+    (goodValue (m .octets) (valueAt (m .rows) k) ≡ true) × (unfitAt (m .table) (m .octets) (m .rows) k ≡ false)
+    × (present (valueAt (m .rows) k) ≡ true) × (n ≡ placeLength m k) × (n ≤ mostIe)
+
+-- with a present place, by the set of the logged ones
+abbrev pub addedTo : ℕ → ℕ → ℕ → Tally → Tally
+addedTo set k n t = pick (bit k set) t (record { octets = t .octets + n; seen = seenOf (includingPlace k (setOf (t .seen))) })
+
+-- the set of the added places: those present that the order log does not name
+abbrev pub AddedAre : Filled → ℕ → ℕ → Type 0
+AddedAre m set added = (k : ℕ) → k < length (m .table) → bit k added ≡ (present (valueAt (m .rows) k) && not (bit k set))
 
 -- all of them, by the set of the logged ones
 abbrev pub SurveyedBy : Filled → ℕ → Surveyed → Type 0
 SurveyedBy m set Surveyed.Malformed = badRows (m .octets) (m .rows) (length (m .table)) ≡ true
 SurveyedBy m set (Surveyed.Unfit k) = (badRows (m .octets) (m .rows) (length (m .table)) ≡ false) × (unfit (m .table) (m .octets) (m .rows) ≡ some k)
-SurveyedBy m set (Surveyed.Added n) =
+SurveyedBy m set (Surveyed.Added t) =
     (badRows (m .octets) (m .rows) (length (m .table)) ≡ false) × (unfit (m .table) (m .octets) (m .rows) ≡ none)
-    × (n ≡ length (addedOctets m set 0 (length (m .table)))) × (n ≤ mostIe * 128)
+    × AddedAre m set (setOf (t .seen)) × (t .octets ≡ length (addedOctets m (setOf (t .seen)) 0 (length (m .table)))) × (t .octets ≤ mostIe * 128)

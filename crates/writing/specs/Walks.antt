@@ -2,12 +2,12 @@
 use Prim.Native.Nat.{ℕ, zero, suc, _+_, _-_, _≤_, _<_, max}
 use mathlib.Core.Path.{_≡_}
 use mathlib.Core.List.{List, [], _∷_, _++_}
-use mathlib.Core.Bool.{false, _&&_, not}
+use mathlib.Core.Bool.{false}
 use mathlib.Core.Option.{Option, none, some}
 use lib.ListN.{length}
 use Rattle.definitions.specs.Basic.{pick, bit, overAt}
 use Rattle.definitions.specs.Rows.{Row, rowsOf, firstIei, firstBad, placeOf, index}
-use Rattle.definitions.specs.Values.{valueAt, present, unfitAt}
+use Rattle.definitions.specs.Values.{unfitAt}
 use Rattle.definitions.specs.Logs.{Placed, knownIei, notKnown, ignored}
 use Rattle.definitions.specs.Writing.{Filled, elementAt, firsts, walked}
 use Rattle.definitions.proofs.LogSteps.{keptFrom, KeptAt, restOf, keptAfter}
@@ -28,18 +28,18 @@ pub record Writable (table rows received set : List ℕ) : Type 0 where
   pub passes : firstBad (rowsOf table) ≡ none
   pub fit : (k : ℕ) → k < length (rowsOf table) → unfitAt (rowsOf table) (sourcesOf received set) rows k ≡ false
 
--- the added places among the n from k on, by the set of the logged ones
-unfoldable pub addedIn : Filled → ℕ → ℕ → ℕ → List ℕ
-addedIn m set k zero = []
-addedIn m set k (suc n) = pick (present (valueAt (m .rows) k) && not (bit k set)) (k ∷ addedIn m set (suc k) n) (addedIn m set (suc k) n)
+-- the places of a set among the n from k on
+unfoldable pub addedIn : ℕ → ℕ → ℕ → List ℕ
+addedIn set k zero = []
+addedIn set k (suc n) = pick (bit k set) (k ∷ addedIn set (suc k) n) (addedIn set (suc k) n)
 
--- the element of a place, if it is an added one
+-- the element of a place, if it is in the set of the added ones
 unfoldable pub addedPiece : Filled → ℕ → ℕ → List ℕ
-addedPiece m set k = pick (bit k set) [] (elementAt m k (firstIei (m .table) k))
+addedPiece m set k = pick (bit k set) (elementAt m k (firstIei (m .table) k)) []
 
 -- the elements of those from a place on, up to another
 unfoldable pub addedOctets : Filled → ℕ → ℕ → ℕ → List ℕ
-addedOctets m set from to = firsts m (addedIn m set from (to - from))
+addedOctets m set from to = firsts m (addedIn set from (to - from))
 
 -- ---- the kept log
 
@@ -90,7 +90,7 @@ pub record PutEntry (m : Filled) (set : ℕ) (kept : List ℕ) (e : Placed) (p :
 
 -- what is left to write from a place on, by the entries and the kept elements that are left
 unfoldable pub leftOf : Filled → ℕ → List Placed → ℕ → List (List ℕ) → List ℕ
-leftOf m set ps from ks = walked m ps (addedIn m set from (length (m .table) - from)) ks
+leftOf m set ps from ks = walked m ps (addedIn set from (length (m .table) - from)) ks
 
 -- a piece to be put from a position on, and what is left of it from a later position on: both give the same buffer
 pub record Left (at : ℕ) (piece before : List ℕ) (at′ : ℕ) (piece′ after : List ℕ) : Type 0 where

@@ -74,12 +74,23 @@ fn encode_formed<'a>(
     match survey(table, rows, received, set, seen) {
         Surveyed::Malformed => Encoded::Malformed(Which::Rows),
         Surveyed::Unfit(k) => Encoded::Unfit(k),
-        Surveyed::Added(added) => {
-            let need = t.octets + kept_octets + added;
+        Surveyed::Added(a) => {
+            let added = a.seen;
+            let need = t.octets + kept_octets + a.octets;
             if output.len() < need {
                 return Encoded::NoOutput(need as u64);
             }
-            write(table, index, rows, received, set, kept, order, seen, output);
+            write(
+                table,
+                index,
+                rows,
+                received,
+                set,
+                kept,
+                order,
+                added,
+                output,
+            );
             Encoded::Done(need)
         }
     }

@@ -22,7 +22,7 @@ ghost use mathlib.Core.Path.{_≡_};
 ghost use mathlib.Core.Option.{none};
 ghost use Prim.Native.Nat.{_≤_, _<_};
 ghost use lib.ListN.{length};
-ghost use Rattle.definitions.specs.Basic.{pick, bit};
+ghost use Rattle.definitions.specs.Basic.{pick};
 ghost use Rattle.definitions.specs.Rows.{rowsOf, firstBad};
 ghost use Rattle.definitions.specs.Values.{badRows};
 ghost use Rattle.definitions.proofs.LogSteps.{OrderAt};
@@ -31,27 +31,27 @@ ghost use Rattle.seen.specs.Seen.{setOf};
 ghost use Rattle.values.specs.Rows.{sourcesOf};
 ghost use Rattle.rows.specs.Forms.{formAs};
 ghost use Rattle.writing.specs.Walks.{filledOf};
-ghost use Rattle.writing.specs.Sizes.{takes, placeLength, mostIe, Sized, Tallied, LoggedBy, LookedAt, SurveyedBy};
+ghost use Rattle.writing.specs.Sizes.{takes, placeLength, mostIe, Sized, Tallied, LoggedBy, addedTo, LookedAt, SurveyedBy};
 
-// The octets of the elements under logged IEIs so far, and the places of these.
+// The octets of some elements, and the places of these: of those under logged IEIs, or of the added ones.
 pub struct Tally {
     pub octets: usize,
     pub seen: Seen,
 }
 
-// A place looked at: its row is malformed, its value does not fit, or so many octets are those of its element, none of an absent one.
+// A place looked at: its row is malformed, its value does not fit, it is absent, or its element takes so many octets.
 pub enum Looked {
     Bad,
     Unfit,
+    Absent,
     Takes(usize),
 }
 
-// What all places say: a row is malformed, a place is the lowest whose value does not fit, or so many octets are those of the added
-// elements.
+// What all places say: a row is malformed, a place is the lowest whose value does not fit, or the added elements are these.
 pub enum Surveyed {
     Malformed,
     Unfit(usize),
-    Added(usize),
+    Added(Tally),
 }
 
 // How many octets an element takes with a value of so many.
@@ -155,7 +155,7 @@ fn look<'a>(table: &[u32], rows: &[u32], received: &'a [u8], set: &'a [u8], plac
         return Looked::Bad;
     }
     if row.source == 0 {
-        return Looked::Takes(0);
+        return Looked::Absent;
     }
     let n = numbers_at(table, place);
     let form = form_of(n.code, n.size);
@@ -166,14 +166,19 @@ fn look<'a>(table: &[u32], rows: &[u32], received: &'a [u8], set: &'a [u8], plac
     Looked::Takes(ie_len(form, value.len()))
 }
 
-// The octets of an element if its place is not in the order log.
-fn if_added(seen: Seen, place: usize, len: usize) -> usize
-    ensures { λ r. ⌜ r ≡ pick (bit place (setOf seen)) 0 len ⌝ }
+// With a present place, whose element is an added one if the order log does not name it.
+fn with_added(seen: Seen, place: usize, len: usize, t: Tally) -> Tally
+    requires { ⌜ (len ≤ mostIe) × (t .octets < 1099511627776) ⌝ }
+    ensures { λ r. ⌜ r ≡ addedTo (setOf seen) place len t ⌝ }
 {
     if seen_has(seen, place) {
-        return 0;
+        return t;
     }
-    len
+    let added = t.seen;
+    Tally {
+        octets: t.octets + len,
+        seen: seen_with(added, place),
+    }
 }
 
 // A place is the lowest whose value does not fit; but a row that is malformed comes first.
@@ -198,7 +203,10 @@ pub(crate) fn survey<'a>(
     ensures { λ r. ⌜ SurveyedBy (filledOf (now (table .entry)) (now (rows .entry)) (now (received .entry)) (now (set .entry))) (setOf seen) r ⌝ }
 {
     let n = places(table);
-    let mut octets = 0;
+    let mut t = Tally {
+        octets: 0,
+        seen: Seen { low: 0, high: 0 },
+    };
     let mut k = 0;
     while k < n {
         match look(table, rows, received, set, k) {
@@ -208,11 +216,14 @@ pub(crate) fn survey<'a>(
             Looked::Unfit => {
                 return unfit_or_bad(rows, n, received, set, k);
             }
+            Looked::Absent => {
+                k += 1;
+            }
             Looked::Takes(len) => {
-                octets += if_added(seen, k, len);
+                t = with_added(seen, k, len, t);
                 k += 1;
             }
         }
     }
-    Surveyed::Added(octets)
+    Surveyed::Added(t)
 }

@@ -69,19 +69,19 @@ fn put_first<'a>(
     rows: &[u32],
     received: &'a [u8],
     set: &'a [u8],
-    seen: Seen,
+    added: Seen,
     place: usize,
     output: &mut [u8],
     at: usize,
 ) -> usize
-    requires { ⌜ Writable (now table) (now rows) (now received) (now set) × (place < length (rowsOf (now table))) × (at + length (addedPiece (filledOf (now table) (now rows) (now received) (now set)) (setOf seen) place) ≤ length (now output)) ⌝ }
-    ensures { λ r. ⌜ PutAt at (addedPiece (filledOf (now (table .entry)) (now (rows .entry)) (now (received .entry)) (now (set .entry))) (setOf seen) place) (now (output .entry)) r (now (output .exit)) ⌝ }
+    requires { ⌜ Writable (now table) (now rows) (now received) (now set) × (place < length (rowsOf (now table))) × (at + length (addedPiece (filledOf (now table) (now rows) (now received) (now set)) (setOf added) place) ≤ length (now output)) ⌝ }
+    ensures { λ r. ⌜ PutAt at (addedPiece (filledOf (now (table .entry)) (now (rows .entry)) (now (received .entry)) (now (set .entry))) (setOf added) place) (now (output .entry)) r (now (output .exit)) ⌝ }
 {
-    let row = row_at(rows, place);
-    if row.source == 0 {
+    if !seen_has(added, place) {
         return at;
     }
-    if seen_has(seen, place) {
+    let row = row_at(rows, place);
+    if row.source == 0 {
         return at;
     }
     let n = numbers_at(table, place);
@@ -101,19 +101,19 @@ fn put_added<'a>(
     rows: &[u32],
     received: &'a [u8],
     set: &'a [u8],
-    seen: Seen,
+    added: Seen,
     from: usize,
     to: usize,
     output: &mut [u8],
     at: usize,
 ) -> usize
-    requires { ⌜ Writable (now table) (now rows) (now received) (now set) × (to ≤ length (rowsOf (now table))) × (at + length (addedOctets (filledOf (now table) (now rows) (now received) (now set)) (setOf seen) from to) ≤ length (now output)) ⌝ }
-    ensures { λ r. ⌜ PutAt at (addedOctets (filledOf (now (table .entry)) (now (rows .entry)) (now (received .entry)) (now (set .entry))) (setOf seen) from to) (now (output .entry)) r (now (output .exit)) ⌝ }
+    requires { ⌜ Writable (now table) (now rows) (now received) (now set) × (to ≤ length (rowsOf (now table))) × (at + length (addedOctets (filledOf (now table) (now rows) (now received) (now set)) (setOf added) from to) ≤ length (now output)) ⌝ }
+    ensures { λ r. ⌜ PutAt at (addedOctets (filledOf (now (table .entry)) (now (rows .entry)) (now (received .entry)) (now (set .entry))) (setOf added) from to) (now (output .entry)) r (now (output .exit)) ⌝ }
 {
     let mut next = at;
     let mut k = from;
     while k < to {
-        next = put_first(table, rows, received, set, seen, k, output, next);
+        next = put_first(table, rows, received, set, added, k, output, next);
         k += 1;
     }
     next
@@ -158,13 +158,13 @@ fn put_known<'a>(
     rows: &[u32],
     received: &'a [u8],
     set: &'a [u8],
-    seen: Seen,
+    added: Seen,
     iei: u8,
     pen: Pen,
     output: &mut [u8],
 ) -> Pen
-    requires { ⌜ Writable (now table) (now rows) (now received) (now set) × IndexIs (now table) (now index) × (pen .at + length (knownPiece (filledOf (now table) (now rows) (now received) (now set)) (setOf seen) iei (pen .place) (placeOf (rowsOf (now table)) iei)) ≤ length (now output)) ⌝ }
-    ensures { λ r. ⌜ PutAt (pen .at) (knownPiece (filledOf (now (table .entry)) (now (rows .entry)) (now (received .entry)) (now (set .entry))) (setOf seen) iei (pen .place) (placeOf (rowsOf (now (table .entry))) iei)) (now (output .entry)) (r .at) (now (output .exit)) × (r .kept ≡ pen .kept) × (r .place ≡ knownPlace (pen .place) (placeOf (rowsOf (now (table .entry))) iei)) ⌝ }
+    requires { ⌜ Writable (now table) (now rows) (now received) (now set) × IndexIs (now table) (now index) × (pen .at + length (knownPiece (filledOf (now table) (now rows) (now received) (now set)) (setOf added) iei (pen .place) (placeOf (rowsOf (now table)) iei)) ≤ length (now output)) ⌝ }
+    ensures { λ r. ⌜ PutAt (pen .at) (knownPiece (filledOf (now (table .entry)) (now (rows .entry)) (now (received .entry)) (now (set .entry))) (setOf added) iei (pen .place) (placeOf (rowsOf (now (table .entry))) iei)) (now (output .entry)) (r .at) (now (output .exit)) × (r .kept ≡ pen .kept) × (r .place ≡ knownPlace (pen .place) (placeOf (rowsOf (now (table .entry))) iei)) ⌝ }
 {
     match place_of(index, iei) {
         Place::At(k) => {
@@ -173,7 +173,7 @@ fn put_known<'a>(
                 rows,
                 received,
                 set,
-                seen,
+                added,
                 pen.place,
                 k,
                 output,
@@ -198,16 +198,16 @@ fn put_entry<'a>(
     received: &'a [u8],
     set: &'a [u8],
     kept: &[u8],
-    seen: Seen,
+    added: Seen,
     entry: Placed,
     pen: Pen,
     output: &mut [u8],
 ) -> Pen
-    requires { ⌜ Writable (now table) (now rows) (now received) (now set) × IndexIs (now table) (now index) × KeptAt (now kept) (pen .kept) × (pen .at + length (pieceOf (filledOf (now table) (now rows) (now received) (now set)) (setOf seen) (placedAs entry) (pen .place) (keptFrom (now kept) (pen .kept))) ≤ length (now output)) ⌝ }
-    ensures { λ r. ⌜ PutEntry (filledOf (now (table .entry)) (now (rows .entry)) (now (received .entry)) (now (set .entry))) (setOf seen) (now (kept .entry)) (placedAs entry) pen (now (output .entry)) r (now (output .exit)) ⌝ }
+    requires { ⌜ Writable (now table) (now rows) (now received) (now set) × IndexIs (now table) (now index) × KeptAt (now kept) (pen .kept) × (pen .at + length (pieceOf (filledOf (now table) (now rows) (now received) (now set)) (setOf added) (placedAs entry) (pen .place) (keptFrom (now kept) (pen .kept))) ≤ length (now output)) ⌝ }
+    ensures { λ r. ⌜ PutEntry (filledOf (now (table .entry)) (now (rows .entry)) (now (received .entry)) (now (set .entry))) (setOf added) (now (kept .entry)) (placedAs entry) pen (now (output .entry)) r (now (output .exit)) ⌝ }
 {
     match entry {
-        Placed::Known(iei) => put_known(table, index, rows, received, set, seen, iei, pen, output),
+        Placed::Known(iei) => put_known(table, index, rows, received, set, added, iei, pen, output),
         Placed::Unknown => put_kept(kept, pen, output),
         Placed::Ignored(_) => put_kept(kept, pen, output),
     }
@@ -222,11 +222,11 @@ fn put_entries<'a>(
     set: &'a [u8],
     kept: &[u8],
     order: &[u8],
-    seen: Seen,
+    added: Seen,
     output: &mut [u8],
 ) -> Pen
-    requires { ⌜ Writable (now table) (now rows) (now received) (now set) × IndexIs (now table) (now index) × KeptAt (now kept) 0 × (orderList (now order) ≡ some (orEmpty (orderList (now order)))) × (length (leftOf (filledOf (now table) (now rows) (now received) (now set)) (setOf seen) (orEmpty (orderList (now order))) 0 (keptFrom (now kept) 0)) ≤ length (now output)) ⌝ }
-    ensures { λ r. ⌜ Writing (filledOf (now (table .entry)) (now (rows .entry)) (now (received .entry)) (now (set .entry))) (setOf seen) (now (kept .entry)) (leftOf (filledOf (now (table .entry)) (now (rows .entry)) (now (received .entry)) (now (set .entry))) (setOf seen) (orEmpty (orderList (now (order .entry)))) 0 (keptFrom (now (kept .entry)) 0)) (now (output .entry)) [] r (now (output .exit)) ⌝ }
+    requires { ⌜ Writable (now table) (now rows) (now received) (now set) × IndexIs (now table) (now index) × KeptAt (now kept) 0 × (orderList (now order) ≡ some (orEmpty (orderList (now order)))) × (length (leftOf (filledOf (now table) (now rows) (now received) (now set)) (setOf added) (orEmpty (orderList (now order))) 0 (keptFrom (now kept) 0)) ≤ length (now output)) ⌝ }
+    ensures { λ r. ⌜ Writing (filledOf (now (table .entry)) (now (rows .entry)) (now (received .entry)) (now (set .entry))) (setOf added) (now (kept .entry)) (leftOf (filledOf (now (table .entry)) (now (rows .entry)) (now (received .entry)) (now (set .entry))) (setOf added) (orEmpty (orderList (now (order .entry)))) 0 (keptFrom (now (kept .entry)) 0)) (now (output .entry)) [] r (now (output .exit)) ⌝ }
 {
     let mut pen = Pen {
         at: 0,
@@ -244,7 +244,7 @@ fn put_entries<'a>(
                     received,
                     set,
                     kept,
-                    seen,
+                    added,
                     entry,
                     pen,
                     output,
@@ -279,19 +279,29 @@ pub(crate) fn write<'a>(
     set: &'a [u8],
     kept: &[u8],
     order: &[u8],
-    seen: Seen,
+    added: Seen,
     output: &mut [u8],
 )
-    requires { ⌜ Writable (now table) (now rows) (now received) (now set) × IndexIs (now table) (now index) × KeptAt (now kept) 0 × (orderList (now order) ≡ some (orEmpty (orderList (now order)))) × (length (leftOf (filledOf (now table) (now rows) (now received) (now set)) (setOf seen) (orEmpty (orderList (now order))) 0 (keptFrom (now kept) 0)) ≤ length (now output)) ⌝ }
-    ensures { λ r. ⌜ now (output .exit) ≡ over (leftOf (filledOf (now (table .entry)) (now (rows .entry)) (now (received .entry)) (now (set .entry))) (setOf seen) (orEmpty (orderList (now (order .entry)))) 0 (keptFrom (now (kept .entry)) 0)) (now (output .entry)) ⌝ }
+    requires { ⌜ Writable (now table) (now rows) (now received) (now set) × IndexIs (now table) (now index) × KeptAt (now kept) 0 × (orderList (now order) ≡ some (orEmpty (orderList (now order)))) × (length (leftOf (filledOf (now table) (now rows) (now received) (now set)) (setOf added) (orEmpty (orderList (now order))) 0 (keptFrom (now kept) 0)) ≤ length (now output)) ⌝ }
+    ensures { λ r. ⌜ now (output .exit) ≡ over (leftOf (filledOf (now (table .entry)) (now (rows .entry)) (now (received .entry)) (now (set .entry))) (setOf added) (orEmpty (orderList (now (order .entry)))) 0 (keptFrom (now (kept .entry)) 0)) (now (output .entry)) ⌝ }
 {
-    let pen = put_entries(table, index, rows, received, set, kept, order, seen, output);
+    let pen = put_entries(
+        table,
+        index,
+        rows,
+        received,
+        set,
+        kept,
+        order,
+        added,
+        output,
+    );
     let at = put_added(
         table,
         rows,
         received,
         set,
-        seen,
+        added,
         pen.place,
         places(table),
         output,

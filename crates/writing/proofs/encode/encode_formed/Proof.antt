@@ -23,24 +23,24 @@ enum-told c = search needs
 enum-known-k : tie.Need-enum-known-k
 enum-known-k c = search needs
 
-enum-known-added : tie.Need-enum-known-added
-enum-known-added c = search needs
+enum-known-a : tie.Need-enum-known-a
+enum-known-a c = search needs
 
 -- what all places say
-surveyed : (c : tie.After-added) → SurveyedBy (filledOf (c .before .before .before .before .before .before .before .before .before .before .before .before .before .args .table .now) (c .before .before .before .before .before .before .before .before .before .before .before .before .before .args .rows .now) (c .before .before .before .before .before .before .before .before .before .before .before .before .before .args .received .now) (c .before .before .before .before .before .before .before .before .before .before .before .before .before .args .set .now)) (setOf (c .before .before .before .before .logged-len .result .seen)) (Surveyed.Added (c .added .given .0 .0))
-surveyed c = rw (c .added .given .1) at (c .before .before .survey .ensures)
+surveyed : (c : tie.After-a) → SurveyedBy (filledOf (c .before .before .before .before .before .before .before .before .before .before .before .before .before .args .table .now) (c .before .before .before .before .before .before .before .before .before .before .before .before .before .args .rows .now) (c .before .before .before .before .before .before .before .before .before .before .before .before .before .args .received .now) (c .before .before .before .before .before .before .before .before .before .before .before .before .before .args .set .now)) (setOf (c .before .before .before .before .logged-len .result .seen)) (Surveyed.Added (c .a .given .0 .0))
+surveyed c = rw (c .a .given .1) at (c .before .before .survey .ensures)
 
 add-need : tie.Need-add-need
-add-need c = omega (arith, c .before .before .before .before .before .before .logged-len .ensures .0, c .before .before .before .before .before .before .before .before .before .before .before .before .before .before .before .pre .1 .octets-are, kept-few (c .before .before .before .before .before .before .before .before .before .before .before .before .before .before .before .args .kept .now) (c .before .before .before .before .before .before .before .before .before .before .before .before .before .before .before .pre .1 .kept-is), c .before .before .before .before .before .before .before .before .before .before .before .before .before .before .before .pre .0 .order-short, c .before .before .before .before .before .before .before .before .before .before .before .before .before .before .before .pre .0 .kept-short)
+add-need c = omega (arith, c .before .before .before .before .before .before .before .logged-len .ensures .0, c .before .before .before .before .before .before .before .before .before .before .before .before .before .before .before .before .pre .1 .octets-are, kept-few (c .before .before .before .before .before .before .before .before .before .before .before .before .before .before .before .before .args .kept .now) (c .before .before .before .before .before .before .before .before .before .before .before .before .before .before .before .before .pre .1 .kept-is), c .before .before .before .before .before .before .before .before .before .before .before .before .before .before .before .before .pre .0 .order-short, c .before .before .before .before .before .before .before .before .before .before .before .before .before .before .before .before .pre .0 .kept-short)
 
 add-need-2 : tie.Need-add-need-2
-add-need-2 c = omega (arith, c .before .before .before .before .before .before .logged-len .ensures .0, c .before .before .before .before .before .before .before .before .before .before .before .before .before .before .before .pre .1 .octets-are, kept-few (c .before .before .before .before .before .before .before .before .before .before .before .before .before .before .before .args .kept .now) (c .before .before .before .before .before .before .before .before .before .before .before .before .before .before .before .pre .1 .kept-is), c .before .before .before .before .before .before .before .before .before .before .before .before .before .before .before .pre .0 .order-short, c .before .before .before .before .before .before .before .before .before .before .before .before .before .before .before .pre .0 .kept-short, surveyed (c .before .before) .3)
+add-need-2 c = omega (arith, c .before .before .before .before .before .before .before .before .logged-len .ensures .0, c .before .before .before .before .before .before .before .before .before .before .before .before .before .before .before .before .before .pre .1 .octets-are, kept-few (c .before .before .before .before .before .before .before .before .before .before .before .before .before .before .before .before .before .args .kept .now) (c .before .before .before .before .before .before .before .before .before .before .before .before .before .before .before .before .before .pre .1 .kept-is), c .before .before .before .before .before .before .before .before .before .before .before .before .before .before .before .before .before .pre .0 .order-short, c .before .before .before .before .before .before .before .before .before .before .before .before .before .before .before .before .before .pre .0 .kept-short, surveyed (c .before .before .before .before) .4)
 
 returns : tie.Need-returns
-returns c = no-output (c .before .before .before .before .before .before .before .before .before .before .before .before .before .before .before .before .args .table .now) (c .before .before .before .before .before .before .before .before .before .before .before .before .before .before .before .before .args .index .now) (c .before .before .before .before .before .before .before .before .before .before .before .before .before .before .before .before .args .rows .now) (c .before .before .before .before .before .before .before .before .before .before .before .before .before .before .before .before .args .received .now) (c .before .before .before .before .before .before .before .before .before .before .before .before .before .before .before .before .args .set .now) (c .before .before .before .before .before .before .before .before .before .before .before .before .before .before .before .before .args .kept .now) (c .before .before .before .before .before .before .before .before .before .before .before .before .before .before .before .before .args .order .now) (c .before .before .before .before .before .before .before .before .before .before .before .before .before .before .before .before .args .output .now) (c .before .before .before .before .before .before .before .before .before .before .before .before .before .before .before .before .pre .0) (c .before .before .before .before .before .before .before .logged-len .ensures .1 .ps) (c .before .before .before .before .before .before .before .logged-len .ensures .1 .is) (c .before .before .before .before .before .before .before .before .before .before .before .before .before .before .before .before .pre .1 .es) (c .before .before .before .before .before .before .before .before .before .before .before .before .before .before .before .before .pre .1 .kept-is) (surveyed (c .before .before .before) .0) (surveyed (c .before .before .before) .1) _ (needed (filledOf (c .before .before .before .before .before .before .before .before .before .before .before .before .before .before .before .before .args .table .now) (c .before .before .before .before .before .before .before .before .before .before .before .before .before .before .before .before .args .rows .now) (c .before .before .before .before .before .before .before .before .before .before .before .before .before .before .before .before .args .received .now) (c .before .before .before .before .before .before .before .before .before .before .before .before .before .before .before .before .args .set .now)) (c .before .before .before .before .before .before .before .before .before .before .before .before .before .before .before .before .args .order .now) (c .before .before .before .before .before .before .before .logged-len .result .octets) (setOf (c .before .before .before .before .before .before .before .logged-len .result .seen)) (c .before .before .before .before .before .before .before .logged-len .ensures .1) (c .before .before .before .before .before .before .before .before .before .before .before .before .before .before .before .before .pre .1 .es) (c .before .before .before .before .before .before .before .before .before .before .before .before .before .before .before .before .pre .1 .octets-are) (surveyed (c .before .before .before) .2)) (c .if1 .taken)
+returns c = no-output (c .before .before .before .before .before .before .before .before .before .before .before .before .before .before .before .before .before .before .args .table .now) (c .before .before .before .before .before .before .before .before .before .before .before .before .before .before .before .before .before .before .args .index .now) (c .before .before .before .before .before .before .before .before .before .before .before .before .before .before .before .before .before .before .args .rows .now) (c .before .before .before .before .before .before .before .before .before .before .before .before .before .before .before .before .before .before .args .received .now) (c .before .before .before .before .before .before .before .before .before .before .before .before .before .before .before .before .before .before .args .set .now) (c .before .before .before .before .before .before .before .before .before .before .before .before .before .before .before .before .before .before .args .kept .now) (c .before .before .before .before .before .before .before .before .before .before .before .before .before .before .before .before .before .before .args .order .now) (c .before .before .before .before .before .before .before .before .before .before .before .before .before .before .before .before .before .before .args .output .now) (c .before .before .before .before .before .before .before .before .before .before .before .before .before .before .before .before .before .before .pre .0) (c .before .before .before .before .before .before .before .before .before .logged-len .ensures .1 .ps) (c .before .before .before .before .before .before .before .before .before .logged-len .ensures .1 .is) (c .before .before .before .before .before .before .before .before .before .before .before .before .before .before .before .before .before .before .pre .1 .es) (c .before .before .before .before .before .before .before .before .before .before .before .before .before .before .before .before .before .before .pre .1 .kept-is) (surveyed (c .before .before .before .before .before) .0) (surveyed (c .before .before .before .before .before) .1) _ (needed (filledOf (c .before .before .before .before .before .before .before .before .before .before .before .before .before .before .before .before .before .before .args .table .now) (c .before .before .before .before .before .before .before .before .before .before .before .before .before .before .before .before .before .before .args .rows .now) (c .before .before .before .before .before .before .before .before .before .before .before .before .before .before .before .before .before .before .args .received .now) (c .before .before .before .before .before .before .before .before .before .before .before .before .before .before .before .before .before .before .args .set .now)) (c .before .before .before .before .before .before .before .before .before .before .before .before .before .before .before .before .before .before .args .order .now) (c .before .before .before .before .before .before .before .before .before .logged-len .result .octets) (setOf (c .before .before .before .before .before .before .before .before .before .logged-len .result .seen)) (setOf (c .before .before .before .before .before .a .given .0 .0 .seen)) (c .before .before .before .before .before .before .before .before .before .logged-len .ensures .1) (surveyed (c .before .before .before .before .before) .2) (c .before .before .before .before .before .before .before .before .before .before .before .before .before .before .before .before .before .before .pre .1 .es) (c .before .before .before .before .before .before .before .before .before .before .before .before .before .before .before .before .before .before .pre .1 .octets-are) (surveyed (c .before .before .before .before .before) .3)) (c .if1 .taken)
 
 write-requires : tie.Need-write-requires
-write-requires c κs = (writable (c .before .before .before .before .before .before .before .before .before .before .before .before .before .before .before .before .before .args .table .now) (c .before .before .before .before .before .before .before .before .before .before .before .before .before .before .before .before .before .args .rows .now) (c .before .before .before .before .before .before .before .before .before .before .before .before .before .before .before .before .before .args .received .now) (c .before .before .before .before .before .before .before .before .before .before .before .before .before .before .before .before .before .args .set .now) (c .before .before .before .before .before .before .before .before .before .before .before .before .before .before .before .before .before .pre .0 .sized .passes) (surveyed (c .before .before .before .before) .1), c .before .before .before .before .before .before .before .before .before .before .before .before .before .before .before .before .before .pre .0 .sized .indexed, kept-begins (c .before .before .before .before .before .before .before .before .before .before .before .before .before .before .before .before .before .args .kept .now) (c .before .before .before .before .before .before .before .before .before .before .before .before .before .before .before .before .before .pre .1 .kept-is), order-begins (c .before .before .before .before .before .before .before .before .before .before .before .before .before .before .before .before .before .args .order .now) (c .before .before .before .before .before .before .before .before .before .before .before .before .before .before .before .before .before .pre .1 .order-is), rw (all-left (filledOf (c .before .before .before .before .before .before .before .before .before .before .before .before .before .before .before .before .before .args .table .now) (c .before .before .before .before .before .before .before .before .before .before .before .before .before .before .before .before .before .args .rows .now) (c .before .before .before .before .before .before .before .before .before .before .before .before .before .before .before .before .before .args .received .now) (c .before .before .before .before .before .before .before .before .before .before .before .before .before .before .before .before .before .args .set .now)) (c .before .before .before .before .before .before .before .before .before .before .before .before .before .before .before .before .before .args .order .now) (c .before .before .before .before .before .before .before .before .logged-len .result .octets) (setOf (c .before .before .before .before .before .before .before .before .logged-len .result .seen)) (c .before .before .before .before .before .before .before .before .logged-len .ensures .1) (c .before .before .before .before .before .before .before .before .before .before .before .before .before .before .before .before .before .args .kept .now) (c .before .before .before .before .before .before .before .before .before .before .before .before .before .before .before .before .before .pre .1 .kept-is)) (omega (arith, (needed (filledOf (c .before .before .before .before .before .before .before .before .before .before .before .before .before .before .before .before .before .args .table .now) (c .before .before .before .before .before .before .before .before .before .before .before .before .before .before .before .before .before .args .rows .now) (c .before .before .before .before .before .before .before .before .before .before .before .before .before .before .before .before .before .args .received .now) (c .before .before .before .before .before .before .before .before .before .before .before .before .before .before .before .before .before .args .set .now)) (c .before .before .before .before .before .before .before .before .before .before .before .before .before .before .before .before .before .args .order .now) (c .before .before .before .before .before .before .before .before .logged-len .result .octets) (setOf (c .before .before .before .before .before .before .before .before .logged-len .result .seen)) (c .before .before .before .before .before .before .before .before .logged-len .ensures .1) (c .before .before .before .before .before .before .before .before .before .before .before .before .before .before .before .before .before .pre .1 .es) (c .before .before .before .before .before .before .before .before .before .before .before .before .before .before .before .before .before .pre .1 .octets-are) (surveyed (c .before .before .before .before) .2)), c .before .if1 .left)))
+write-requires c κs = (writable (c .before .before .before .before .before .before .before .before .before .before .before .before .before .before .before .before .before .before .before .args .table .now) (c .before .before .before .before .before .before .before .before .before .before .before .before .before .before .before .before .before .before .before .args .rows .now) (c .before .before .before .before .before .before .before .before .before .before .before .before .before .before .before .before .before .before .before .args .received .now) (c .before .before .before .before .before .before .before .before .before .before .before .before .before .before .before .before .before .before .before .args .set .now) (c .before .before .before .before .before .before .before .before .before .before .before .before .before .before .before .before .before .before .before .pre .0 .sized .passes) (surveyed (c .before .before .before .before .before .before) .1), c .before .before .before .before .before .before .before .before .before .before .before .before .before .before .before .before .before .before .before .pre .0 .sized .indexed, kept-begins (c .before .before .before .before .before .before .before .before .before .before .before .before .before .before .before .before .before .before .before .args .kept .now) (c .before .before .before .before .before .before .before .before .before .before .before .before .before .before .before .before .before .before .before .pre .1 .kept-is), order-begins (c .before .before .before .before .before .before .before .before .before .before .before .before .before .before .before .before .before .before .before .args .order .now) (c .before .before .before .before .before .before .before .before .before .before .before .before .before .before .before .before .before .before .before .pre .1 .order-is), rw (all-left (filledOf (c .before .before .before .before .before .before .before .before .before .before .before .before .before .before .before .before .before .before .before .args .table .now) (c .before .before .before .before .before .before .before .before .before .before .before .before .before .before .before .before .before .before .before .args .rows .now) (c .before .before .before .before .before .before .before .before .before .before .before .before .before .before .before .before .before .before .before .args .received .now) (c .before .before .before .before .before .before .before .before .before .before .before .before .before .before .before .before .before .before .before .args .set .now)) (c .before .before .before .before .before .before .before .before .before .before .before .before .before .before .before .before .before .before .before .args .order .now) (c .before .before .before .before .before .before .before .before .before .before .logged-len .result .octets) (setOf (c .before .before .before .before .before .before .before .before .before .before .logged-len .result .seen)) (setOf (c .before .before .before .before .before .before .a .given .0 .0 .seen)) (c .before .before .before .before .before .before .before .before .before .before .logged-len .ensures .1) (surveyed (c .before .before .before .before .before .before) .2) (c .before .before .before .before .before .before .before .before .before .before .before .before .before .before .before .before .before .before .before .args .kept .now) (c .before .before .before .before .before .before .before .before .before .before .before .before .before .before .before .before .before .before .before .pre .1 .kept-is)) (omega (arith, (needed (filledOf (c .before .before .before .before .before .before .before .before .before .before .before .before .before .before .before .before .before .before .before .args .table .now) (c .before .before .before .before .before .before .before .before .before .before .before .before .before .before .before .before .before .before .before .args .rows .now) (c .before .before .before .before .before .before .before .before .before .before .before .before .before .before .before .before .before .before .before .args .received .now) (c .before .before .before .before .before .before .before .before .before .before .before .before .before .before .before .before .before .before .before .args .set .now)) (c .before .before .before .before .before .before .before .before .before .before .before .before .before .before .before .before .before .before .before .args .order .now) (c .before .before .before .before .before .before .before .before .before .before .logged-len .result .octets) (setOf (c .before .before .before .before .before .before .before .before .before .before .logged-len .result .seen)) (setOf (c .before .before .before .before .before .before .a .given .0 .0 .seen)) (c .before .before .before .before .before .before .before .before .before .before .logged-len .ensures .1) (surveyed (c .before .before .before .before .before .before) .2) (c .before .before .before .before .before .before .before .before .before .before .before .before .before .before .before .before .before .before .before .pre .1 .es) (c .before .before .before .before .before .before .before .before .before .before .before .before .before .before .before .before .before .before .before .pre .1 .octets-are) (surveyed (c .before .before .before .before .before .before) .3)), c .before .if1 .left)))
 
 returns-2 : tie.Need-returns-2
 returns-2 c = bad-rows (c .before .before .before .before .before .before .before .before .before .before .before .before .before .args .table .now) (c .before .before .before .before .before .before .before .before .before .before .before .before .before .args .index .now) (c .before .before .before .before .before .before .before .before .before .before .before .before .before .args .rows .now) (c .before .before .before .before .before .before .before .before .before .before .before .before .before .args .received .now) (c .before .before .before .before .before .before .before .before .before .before .before .before .before .args .set .now) (c .before .before .before .before .before .before .before .before .before .before .before .before .before .args .kept .now) (c .before .before .before .before .before .before .before .before .before .before .before .before .before .args .order .now) (c .before .before .before .before .before .before .before .before .before .before .before .before .before .args .output .now) (c .before .before .before .before .before .before .before .before .before .before .before .before .before .pre .0) (c .before .before .before .before .logged-len .ensures .1 .ps) (c .before .before .before .before .logged-len .ensures .1 .is) (c .before .before .before .before .before .before .before .before .before .before .before .before .before .pre .1 .es) (c .before .before .before .before .before .before .before .before .before .before .before .before .before .pre .1 .kept-is) (rw (c .enum-told .given .1) at (c .before .before .survey .ensures))
@@ -52,7 +52,7 @@ same-length : tie.Need-same-length
 same-length c = search needs
 
 returns-4 : tie.Need-returns-4
-returns-4 c = done (c .before .before .before .before .before .before .before .before .before .before .before .before .before .before .before .before .before .before .before .before .args .table .now) (c .before .before .before .before .before .before .before .before .before .before .before .before .before .before .before .before .before .before .before .before .args .index .now) (c .before .before .before .before .before .before .before .before .before .before .before .before .before .before .before .before .before .before .before .before .args .rows .now) (c .before .before .before .before .before .before .before .before .before .before .before .before .before .before .before .before .before .before .before .before .args .received .now) (c .before .before .before .before .before .before .before .before .before .before .before .before .before .before .before .before .before .before .before .before .args .set .now) (c .before .before .before .before .before .before .before .before .before .before .before .before .before .before .before .before .before .before .before .before .args .kept .now) (c .before .before .before .before .before .before .before .before .before .before .before .before .before .before .before .before .before .before .before .before .args .order .now) (c .before .before .before .before .before .before .before .before .before .before .before .before .before .before .before .before .before .before .before .before .args .output .now) (c .before .before .before .before .before .before .before .before .before .before .before .before .before .before .before .before .before .before .before .before .pre .0) (c .before .before .before .before .before .before .before .before .before .before .before .logged-len .ensures .1 .ps) (c .before .before .before .before .before .before .before .before .before .before .before .logged-len .ensures .1 .is) (c .before .before .before .before .before .before .before .before .before .before .before .before .before .before .before .before .before .before .before .before .pre .1 .es) (c .before .before .before .before .before .before .before .before .before .before .before .before .before .before .before .before .before .before .before .before .pre .1 .kept-is) (surveyed (c .before .before .before .before .before .before .before) .0) (surveyed (c .before .before .before .before .before .before .before) .1) _ (needed (filledOf (c .before .before .before .before .before .before .before .before .before .before .before .before .before .before .before .before .before .before .before .before .args .table .now) (c .before .before .before .before .before .before .before .before .before .before .before .before .before .before .before .before .before .before .before .before .args .rows .now) (c .before .before .before .before .before .before .before .before .before .before .before .before .before .before .before .before .before .before .before .before .args .received .now) (c .before .before .before .before .before .before .before .before .before .before .before .before .before .before .before .before .before .before .before .before .args .set .now)) (c .before .before .before .before .before .before .before .before .before .before .before .before .before .before .before .before .before .before .before .before .args .order .now) (c .before .before .before .before .before .before .before .before .before .before .before .logged-len .result .octets) (setOf (c .before .before .before .before .before .before .before .before .before .before .before .logged-len .result .seen)) (c .before .before .before .before .before .before .before .before .before .before .before .logged-len .ensures .1) (c .before .before .before .before .before .before .before .before .before .before .before .before .before .before .before .before .before .before .before .before .pre .1 .es) (c .before .before .before .before .before .before .before .before .before .before .before .before .before .before .before .before .before .before .before .before .pre .1 .octets-are) (surveyed (c .before .before .before .before .before .before .before) .2)) (c .before .before .before .before .if1 .left) (rw (all-left (filledOf (c .before .before .before .before .before .before .before .before .before .before .before .before .before .before .before .before .before .before .before .before .args .table .now) (c .before .before .before .before .before .before .before .before .before .before .before .before .before .before .before .before .before .before .before .before .args .rows .now) (c .before .before .before .before .before .before .before .before .before .before .before .before .before .before .before .before .before .before .before .before .args .received .now) (c .before .before .before .before .before .before .before .before .before .before .before .before .before .before .before .before .before .before .before .before .args .set .now)) (c .before .before .before .before .before .before .before .before .before .before .before .before .before .before .before .before .before .before .before .before .args .order .now) (c .before .before .before .before .before .before .before .before .before .before .before .logged-len .result .octets) (setOf (c .before .before .before .before .before .before .before .before .before .before .before .logged-len .result .seen)) (c .before .before .before .before .before .before .before .before .before .before .before .logged-len .ensures .1) (c .before .before .before .before .before .before .before .before .before .before .before .before .before .before .before .before .before .before .before .before .args .kept .now) (c .before .before .before .before .before .before .before .before .before .before .before .before .before .before .before .before .before .before .before .before .pre .1 .kept-is)) at (c .before .before .write .ensures))
+returns-4 c = done (c .before .before .before .before .before .before .before .before .before .before .before .before .before .before .before .before .before .before .before .before .before .before .args .table .now) (c .before .before .before .before .before .before .before .before .before .before .before .before .before .before .before .before .before .before .before .before .before .before .args .index .now) (c .before .before .before .before .before .before .before .before .before .before .before .before .before .before .before .before .before .before .before .before .before .before .args .rows .now) (c .before .before .before .before .before .before .before .before .before .before .before .before .before .before .before .before .before .before .before .before .before .before .args .received .now) (c .before .before .before .before .before .before .before .before .before .before .before .before .before .before .before .before .before .before .before .before .before .before .args .set .now) (c .before .before .before .before .before .before .before .before .before .before .before .before .before .before .before .before .before .before .before .before .before .before .args .kept .now) (c .before .before .before .before .before .before .before .before .before .before .before .before .before .before .before .before .before .before .before .before .before .before .args .order .now) (c .before .before .before .before .before .before .before .before .before .before .before .before .before .before .before .before .before .before .before .before .before .before .args .output .now) (c .before .before .before .before .before .before .before .before .before .before .before .before .before .before .before .before .before .before .before .before .before .before .pre .0) (c .before .before .before .before .before .before .before .before .before .before .before .before .before .logged-len .ensures .1 .ps) (c .before .before .before .before .before .before .before .before .before .before .before .before .before .logged-len .ensures .1 .is) (c .before .before .before .before .before .before .before .before .before .before .before .before .before .before .before .before .before .before .before .before .before .before .pre .1 .es) (c .before .before .before .before .before .before .before .before .before .before .before .before .before .before .before .before .before .before .before .before .before .before .pre .1 .kept-is) (surveyed (c .before .before .before .before .before .before .before .before .before) .0) (surveyed (c .before .before .before .before .before .before .before .before .before) .1) _ (needed (filledOf (c .before .before .before .before .before .before .before .before .before .before .before .before .before .before .before .before .before .before .before .before .before .before .args .table .now) (c .before .before .before .before .before .before .before .before .before .before .before .before .before .before .before .before .before .before .before .before .before .before .args .rows .now) (c .before .before .before .before .before .before .before .before .before .before .before .before .before .before .before .before .before .before .before .before .before .before .args .received .now) (c .before .before .before .before .before .before .before .before .before .before .before .before .before .before .before .before .before .before .before .before .before .before .args .set .now)) (c .before .before .before .before .before .before .before .before .before .before .before .before .before .before .before .before .before .before .before .before .before .before .args .order .now) (c .before .before .before .before .before .before .before .before .before .before .before .before .before .logged-len .result .octets) (setOf (c .before .before .before .before .before .before .before .before .before .before .before .before .before .logged-len .result .seen)) (setOf (c .before .before .before .before .before .before .before .before .before .a .given .0 .0 .seen)) (c .before .before .before .before .before .before .before .before .before .before .before .before .before .logged-len .ensures .1) (surveyed (c .before .before .before .before .before .before .before .before .before) .2) (c .before .before .before .before .before .before .before .before .before .before .before .before .before .before .before .before .before .before .before .before .before .before .pre .1 .es) (c .before .before .before .before .before .before .before .before .before .before .before .before .before .before .before .before .before .before .before .before .before .before .pre .1 .octets-are) (surveyed (c .before .before .before .before .before .before .before .before .before) .3)) (c .before .before .before .before .if1 .left) (rw (all-left (filledOf (c .before .before .before .before .before .before .before .before .before .before .before .before .before .before .before .before .before .before .before .before .before .before .args .table .now) (c .before .before .before .before .before .before .before .before .before .before .before .before .before .before .before .before .before .before .before .before .before .before .args .rows .now) (c .before .before .before .before .before .before .before .before .before .before .before .before .before .before .before .before .before .before .before .before .before .before .args .received .now) (c .before .before .before .before .before .before .before .before .before .before .before .before .before .before .before .before .before .before .before .before .before .before .args .set .now)) (c .before .before .before .before .before .before .before .before .before .before .before .before .before .before .before .before .before .before .before .before .before .before .args .order .now) (c .before .before .before .before .before .before .before .before .before .before .before .before .before .logged-len .result .octets) (setOf (c .before .before .before .before .before .before .before .before .before .before .before .before .before .logged-len .result .seen)) (setOf (c .before .before .before .before .before .before .before .before .before .a .given .0 .0 .seen)) (c .before .before .before .before .before .before .before .before .before .before .before .before .before .logged-len .ensures .1) (surveyed (c .before .before .before .before .before .before .before .before .before) .2) (c .before .before .before .before .before .before .before .before .before .before .before .before .before .before .before .before .before .before .before .before .before .before .args .kept .now) (c .before .before .before .before .before .before .before .before .before .before .before .before .before .before .before .before .before .before .before .before .before .before .pre .1 .kept-is)) at (c .before .before .write .ensures))
 
 pub encode-formed-spec : {M : Type 1} → statement M
 encode-formed-spec =
@@ -62,7 +62,7 @@ encode-formed-spec =
     survey-requires
     enum-told
     enum-known-k
-    enum-known-added
+    enum-known-a
     add-need
     add-need-2
     returns

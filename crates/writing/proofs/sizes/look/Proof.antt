@@ -7,8 +7,7 @@ use lib.ListN.{length}
 use Rattle.definitions.specs.Values.{valueAt, goodValue, unfitAt}
 use Rattle.values.specs.Rows.{valueOf, sourcesOf}
 use Rattle.definitions.specs.Rows.{rowsOf}
-use Rattle.writing.specs.Sizes.{placeLength}
-use Rattle.writing.proofs.Places.{form-there, octets-short, absent, fits-absent, unfit-there, length-there, not-true, not-false}
+use Rattle.writing.proofs.Places.{form-there, octets-short, not-present, is-present, unfit-there, length-there, not-true, not-false}
 use borrow.Author.Needs.{needs}
 use Rattle.writing.proofs.sizes.look.Statement.{statement}
 use Rattle.writing.proofs.sizes.look.Tie as tie
@@ -27,8 +26,7 @@ returns : tie.Need-returns
 returns c = sym (good (c .before)) ∙ not-true _ (c .if1 .taken)
 
 returns-2 : tie.Need-returns-2
-unfolding placeLength
-returns-2 c = (sym (good (c .before .before .before)) ∙ not-false _ (c .before .before .if1 .left), fits-absent (c .before .before .before .before .before .before .before .before .before .args .table .now) (c .before .before .before .before .before .before .before .before .before .args .rows .now) (c .before .before .before .before .before .before .before .before .before .args .received .now) (c .before .before .before .before .before .before .before .before .before .args .set .now) (c .before .before .before .before .before .before .before .before .before .args .place) (c .before .before .before .before .row-at .result) (c .before .before .before .before .row-at .ensures) (c .if2 .taken), ap length (sym (absent (c .before .before .before .before .before .before .before .before .before .args .table .now) (c .before .before .before .before .before .before .before .before .before .args .rows .now) (c .before .before .before .before .before .before .before .before .before .args .received .now) (c .before .before .before .before .before .before .before .before .before .args .set .now) (c .before .before .before .before .before .before .before .before .before .args .place) (c .before .before .before .before .row-at .result) (c .before .before .before .before .row-at .ensures) (c .if2 .taken) 0)), omega arith)
+returns-2 c = (sym (good (c .before .before .before)) ∙ not-false _ (c .before .before .if1 .left), not-present (c .before .before .before .before .before .before .before .before .before .args .table .now) (c .before .before .before .before .before .before .before .before .before .args .rows .now) (c .before .before .before .before .before .before .before .before .before .args .received .now) (c .before .before .before .before .before .before .before .before .before .args .set .now) (c .before .before .before .before .before .before .before .before .before .args .place) (c .before .before .before .before .row-at .result) (c .before .before .before .before .row-at .ensures) (c .if2 .taken))
 
 numbers-at-requires : tie.Need-numbers-at-requires
 numbers-at-requires c κs = search needs
@@ -55,7 +53,7 @@ ie-len-requires c κs = let l = octets-short (c .before .before .before .before 
 returns-4 : tie.Need-returns-4
 returns-4 c =
     let l = length-there (c .before .before .before .before .before .before .before .before .before .before .before .before .before .before .before .args .table .now) (c .before .before .before .before .before .before .before .before .before .before .before .before .before .before .before .args .rows .now) (c .before .before .before .before .before .before .before .before .before .before .before .before .before .before .before .args .received .now) (c .before .before .before .before .before .before .before .before .before .before .before .before .before .before .before .args .set .now) (c .before .before .before .before .before .before .before .before .before .before .before .before .before .before .before .args .place) (c .before .before .before .before .before .before .before .before .before .before .row-at .result) (c .before .before .before .before .before .before .before .before .before .before .row-at .ensures) (c .before .before .before .before .before .before .if2 .left) (c .before .before .before .before .before .before .before .before .before .before .before .before .before .before .before .pre .1) (c .before .before .before .before .before .before .before .before .before .before .before .before .before .before .before .pre .2) (c .ie-len .ensures) (form-there (c .before .before .before .before .before .before .before .before .before .before .before .before .before .before .before .args .table .now) (c .before .before .before .before .before .before .before .before .before .before .before .before .before .before .before .args .place) (c .before .before .before .before .before .before .before .before .before .before .before .before .before .before .before .pre .0) (c .before .before .before .before .before .numbers-at .ensures) (c .before .before .before .before .form-of .ensures)) (c .before .before .before .value-octets .ensures .0) in
-    (sym (good (c .before .before .before .before .before .before .before .before .before)) ∙ not-false _ (c .before .before .before .before .before .before .before .before .if1 .left), unfit (c .before .before) ∙ c .before .if3 .left, l .0, l .1)
+    (sym (good (c .before .before .before .before .before .before .before .before .before)) ∙ not-false _ (c .before .before .before .before .before .before .before .before .if1 .left), unfit (c .before .before) ∙ c .before .if3 .left, is-present (c .before .before .before .before .before .before .before .before .before .before .before .before .before .before .before .args .table .now) (c .before .before .before .before .before .before .before .before .before .before .before .before .before .before .before .args .rows .now) (c .before .before .before .before .before .before .before .before .before .before .before .before .before .before .before .args .received .now) (c .before .before .before .before .before .before .before .before .before .before .before .before .before .before .before .args .set .now) (c .before .before .before .before .before .before .before .before .before .before .before .before .before .before .before .args .place) (c .before .before .before .before .before .before .before .before .before .before .row-at .result) (c .before .before .before .before .before .before .before .before .before .before .row-at .ensures) (c .before .before .before .before .before .before .if2 .left), l .0, l .1)
 
 pub look-spec : {M : Type 1} → statement M
 look-spec =

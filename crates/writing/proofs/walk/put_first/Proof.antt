@@ -1,4 +1,4 @@
--- `put_first` writes nothing of an absent or a logged place, and of another its element under the first IEI.
+-- `put_first` writes nothing of a place that is not in the set, or is absent, and of another its element under the first IEI.
 -- That IEI is one of the place's form.
 use Prim.Native.Nat.{_<_}
 use native.Mathlib.Omega.{arith}
@@ -14,24 +14,28 @@ use Rattle.rows.specs.declared.columns.Numbers.{Numbers}
 use Rattle.rows.proofs.WholeRows.{whole-rows}
 use Rattle.seen.specs.Seen.{setOf}
 use Rattle.writing.specs.Walks.{filledOf, addedPiece}
-use Rattle.writing.proofs.Places.{form-there, absent}
+use Rattle.writing.proofs.Places.{form-there, absent, not-true, not-false}
 use Rattle.writing.proofs.Putting.{piece-there, writes-there, put-nothing, put-from, bears-octet}
-use Rattle.writing.proofs.Cursor.{piece-absent, piece-logged, piece-added}
+use Rattle.writing.proofs.Cursor.{piece-added, piece-not}
 use borrow.Author.Needs.{needs}
 use Rattle.writing.proofs.walk.put_first.Statement.{statement}
 use Rattle.writing.proofs.walk.put_first.Tie as tie
 
-row-at-requires : tie.Need-row-at-requires
-row-at-requires c κs = search needs
-
-returns : tie.Need-returns
-returns c = rw (piece-absent (filledOf (c .before .before .before .before .before .before .before .before .args .table .now) (c .before .before .before .before .before .before .before .before .args .rows .now) (c .before .before .before .before .before .before .before .before .args .received .now) (c .before .before .before .before .before .before .before .before .args .set .now)) (setOf (c .before .before .before .before .before .before .before .before .args .seen)) (c .before .before .before .before .before .before .before .before .args .place) (absent (c .before .before .before .before .before .before .before .before .args .table .now) (c .before .before .before .before .before .before .before .before .args .rows .now) (c .before .before .before .before .before .before .before .before .args .received .now) (c .before .before .before .before .before .before .before .before .args .set .now) (c .before .before .before .before .before .before .before .before .args .place) (c .before .before .row-at .result) (c .before .before .row-at .ensures) (c .if1 .taken) _)) (put-nothing (c .before .before .before .before .before .before .before .before .args .at) (c .before .before .before .before .before .before .before .before .args .output .now))
-
 seen-has-requires : tie.Need-seen-has-requires
 seen-has-requires c κs = search needs
 
+returns : tie.Need-returns
+returns c = rw (piece-not (filledOf (c .before .before .before .before .before .before .before .args .table .now) (c .before .before .before .before .before .before .before .args .rows .now) (c .before .before .before .before .before .before .before .args .received .now) (c .before .before .before .before .before .before .before .args .set .now)) (setOf (c .before .before .before .before .before .before .before .args .added)) (c .before .before .before .before .before .before .before .args .place) (sym (c .before .seen-has .ensures) ∙ not-true _ (c .if1 .taken))) (put-nothing (c .before .before .before .before .before .before .before .args .at) (c .before .before .before .before .before .before .before .args .output .now))
+
+row-at-requires : tie.Need-row-at-requires
+row-at-requires c κs = search needs
+
+-- of a place in the set
+in-set : (c : tie.After-row-at) → addedPiece (filledOf (c .before .before .before .before .before .before .before .before .args .table .now) (c .before .before .before .before .before .before .before .before .args .rows .now) (c .before .before .before .before .before .before .before .before .args .received .now) (c .before .before .before .before .before .before .before .before .args .set .now)) (setOf (c .before .before .before .before .before .before .before .before .args .added)) (c .before .before .before .before .before .before .before .before .args .place) ≡ elementAt (filledOf (c .before .before .before .before .before .before .before .before .args .table .now) (c .before .before .before .before .before .before .before .before .args .rows .now) (c .before .before .before .before .before .before .before .before .args .received .now) (c .before .before .before .before .before .before .before .before .args .set .now)) (c .before .before .before .before .before .before .before .before .args .place) (firstIei (rowsOf (c .before .before .before .before .before .before .before .before .args .table .now)) (c .before .before .before .before .before .before .before .before .args .place))
+in-set c = piece-added (filledOf (c .before .before .before .before .before .before .before .before .args .table .now) (c .before .before .before .before .before .before .before .before .args .rows .now) (c .before .before .before .before .before .before .before .before .args .received .now) (c .before .before .before .before .before .before .before .before .args .set .now)) (setOf (c .before .before .before .before .before .before .before .before .args .added)) (c .before .before .before .before .before .before .before .before .args .place) (sym (c .before .before .seen-has .ensures) ∙ not-false _ (c .before .if1 .left))
+
 returns-2 : tie.Need-returns-2
-returns-2 c = rw (piece-logged (filledOf (c .before .before .before .before .before .before .before .before .before .before .args .table .now) (c .before .before .before .before .before .before .before .before .before .before .args .rows .now) (c .before .before .before .before .before .before .before .before .before .before .args .received .now) (c .before .before .before .before .before .before .before .before .before .before .args .set .now)) (setOf (c .before .before .before .before .before .before .before .before .before .before .args .seen)) (c .before .before .before .before .before .before .before .before .before .before .args .place) (sym (c .before .seen-has .ensures) ∙ c .if2 .taken)) (put-nothing (c .before .before .before .before .before .before .before .before .before .before .args .at) (c .before .before .before .before .before .before .before .before .before .before .args .output .now))
+returns-2 c = rw (in-set (c .before .before) ∙ absent (c .before .before .before .before .before .before .before .before .before .before .args .table .now) (c .before .before .before .before .before .before .before .before .before .before .args .rows .now) (c .before .before .before .before .before .before .before .before .before .before .args .received .now) (c .before .before .before .before .before .before .before .before .before .before .args .set .now) (c .before .before .before .before .before .before .before .before .before .before .args .place) (c .before .before .row-at .result) (c .before .before .row-at .ensures) (c .if2 .taken) _) (put-nothing (c .before .before .before .before .before .before .before .before .before .before .args .at) (c .before .before .before .before .before .before .before .before .before .before .args .output .now))
 
 numbers-at-requires : tie.Need-numbers-at-requires
 numbers-at-requires c κs = search needs
@@ -45,10 +49,6 @@ first-is c = ap (λ (n : Numbers). n .first) (c .numbers-at .ensures) ∙ whole-
 
 bears : (c : tie.After-numbers-at) → Bears (form (rowAt (rowsOf (c .before .before .before .before .before .before .before .before .before .before .before .args .table .now)) (c .before .before .before .before .before .before .before .before .before .before .before .args .place))) (c .numbers-at .result .first)
 bears c = rw (first-is c) (first-bears (c .before .before .before .before .before .before .before .before .before .before .before .args .table .now) (c .before .before .before .before .before .before .before .before .before .before .before .args .place) (c .before .before .before .before .before .before .before .before .before .before .before .pre .0 .passes) (c .before .before .before .before .before .before .before .before .before .before .before .pre .1))
-
--- the element, under whatever form and octets the code has it
-first-piece : (c : tie.After-numbers-at) → addedPiece (filledOf (c .before .before .before .before .before .before .before .before .before .before .before .args .table .now) (c .before .before .before .before .before .before .before .before .before .before .before .args .rows .now) (c .before .before .before .before .before .before .before .before .before .before .before .args .received .now) (c .before .before .before .before .before .before .before .before .before .before .before .args .set .now)) (setOf (c .before .before .before .before .before .before .before .before .before .before .before .args .seen)) (c .before .before .before .before .before .before .before .before .before .before .before .args .place) ≡ elementAt (filledOf (c .before .before .before .before .before .before .before .before .before .before .before .args .table .now) (c .before .before .before .before .before .before .before .before .before .before .before .args .rows .now) (c .before .before .before .before .before .before .before .before .before .before .before .args .received .now) (c .before .before .before .before .before .before .before .before .before .before .before .args .set .now)) (c .before .before .before .before .before .before .before .before .before .before .before .args .place) (c .numbers-at .result .first)
-first-piece c = piece-added (filledOf (c .before .before .before .before .before .before .before .before .before .before .before .args .table .now) (c .before .before .before .before .before .before .before .before .before .before .before .args .rows .now) (c .before .before .before .before .before .before .before .before .before .before .before .args .received .now) (c .before .before .before .before .before .before .before .before .before .before .before .args .set .now)) (setOf (c .before .before .before .before .before .before .before .before .before .before .before .args .seen)) (c .before .before .before .before .before .before .before .before .before .before .before .args .place) (sym (c .before .before .seen-has .ensures) ∙ c .before .if2 .left) ∙ ap (elementAt (filledOf (c .before .before .before .before .before .before .before .before .before .before .before .args .table .now) (c .before .before .before .before .before .before .before .before .before .before .before .args .rows .now) (c .before .before .before .before .before .before .before .before .before .before .before .args .received .now) (c .before .before .before .before .before .before .before .before .before .before .before .args .set .now)) (c .before .before .before .before .before .before .before .before .before .before .before .args .place)) (sym (first-is c))
 
 sub-put-ie : tie.Need-sub-put-ie
 sub-put-ie c = omega (arith, c .before .before .before .before .before .before .before .before .before .before .before .before .pre .2)
@@ -65,11 +65,12 @@ form-of-requires c κs = search needs
 cast-put-ie : tie.Need-cast-put-ie
 cast-put-ie c = let o : c .before .before .before .before .numbers-at .result .first < 256 = bears-octet (form (rowAt (rowsOf (c .before .before .before .before .before .before .before .before .before .before .before .before .before .before .before .args .table .now)) (c .before .before .before .before .before .before .before .before .before .before .before .before .before .before .before .args .place))) (c .before .before .before .before .numbers-at .result .first) (bears (c .before .before .before .before)) in omega arith
 
-piece : (c : tie.After-form-of) → addedPiece (filledOf (c .before .before .before .before .before .before .before .before .before .before .before .before .before .before .args .table .now) (c .before .before .before .before .before .before .before .before .before .before .before .before .before .before .args .rows .now) (c .before .before .before .before .before .before .before .before .before .before .before .before .before .before .args .received .now) (c .before .before .before .before .before .before .before .before .before .before .before .before .before .before .args .set .now)) (setOf (c .before .before .before .before .before .before .before .before .before .before .before .before .before .before .args .seen)) (c .before .before .before .before .before .before .before .before .before .before .before .before .before .before .args .place) ≡ encoded (formAs (c .form-of .result)) (c .before .before .before .numbers-at .result .first) (c .before .before .value-octets .result .now)
-piece c = first-piece (c .before .before .before) ∙ piece-there (c .before .before .before .before .before .before .before .before .before .before .before .before .before .before .args .table .now) (c .before .before .before .before .before .before .before .before .before .before .before .before .before .before .args .rows .now) (c .before .before .before .before .before .before .before .before .before .before .before .before .before .before .args .received .now) (c .before .before .before .before .before .before .before .before .before .before .before .before .before .before .args .set .now) (c .before .before .before .before .before .before .before .before .before .before .before .before .before .before .args .place) (c .before .before .before .numbers-at .result .first) (c .before .before .before .before .before .before .before .before .row-at .result) (c .before .before .before .before .before .before .before .before .row-at .ensures) (c .before .before .before .before .before .before .if1 .left) (form-there (c .before .before .before .before .before .before .before .before .before .before .before .before .before .before .args .table .now) (c .before .before .before .before .before .before .before .before .before .before .before .before .before .before .args .place) (c .before .before .before .before .before .before .before .before .before .before .before .before .before .before .pre .0 .passes) (c .before .before .before .numbers-at .ensures) (c .form-of .ensures)) (c .before .before .value-octets .ensures .0)
+-- the element, as the code has it
+piece : (c : tie.After-form-of) → addedPiece (filledOf (c .before .before .before .before .before .before .before .before .before .before .before .before .before .before .args .table .now) (c .before .before .before .before .before .before .before .before .before .before .before .before .before .before .args .rows .now) (c .before .before .before .before .before .before .before .before .before .before .before .before .before .before .args .received .now) (c .before .before .before .before .before .before .before .before .before .before .before .before .before .before .args .set .now)) (setOf (c .before .before .before .before .before .before .before .before .before .before .before .before .before .before .args .added)) (c .before .before .before .before .before .before .before .before .before .before .before .before .before .before .args .place) ≡ encoded (formAs (c .form-of .result)) (c .before .before .before .numbers-at .result .first) (c .before .before .value-octets .result .now)
+piece c = in-set (c .before .before .before .before .before .before) ∙ ap (elementAt (filledOf (c .before .before .before .before .before .before .before .before .before .before .before .before .before .before .args .table .now) (c .before .before .before .before .before .before .before .before .before .before .before .before .before .before .args .rows .now) (c .before .before .before .before .before .before .before .before .before .before .before .before .before .before .args .received .now) (c .before .before .before .before .before .before .before .before .before .before .before .before .before .before .args .set .now)) (c .before .before .before .before .before .before .before .before .before .before .before .before .before .before .args .place)) (sym (first-is (c .before .before .before))) ∙ piece-there (c .before .before .before .before .before .before .before .before .before .before .before .before .before .before .args .table .now) (c .before .before .before .before .before .before .before .before .before .before .before .before .before .before .args .rows .now) (c .before .before .before .before .before .before .before .before .before .before .before .before .before .before .args .received .now) (c .before .before .before .before .before .before .before .before .before .before .before .before .before .before .args .set .now) (c .before .before .before .before .before .before .before .before .before .before .before .before .before .before .args .place) (c .before .before .before .numbers-at .result .first) (c .before .before .before .before .before .before .row-at .result) (c .before .before .before .before .before .before .row-at .ensures) (c .before .before .before .before .if2 .left) (form-there (c .before .before .before .before .before .before .before .before .before .before .before .before .before .before .args .table .now) (c .before .before .before .before .before .before .before .before .before .before .before .before .before .before .args .place) (c .before .before .before .before .before .before .before .before .before .before .before .before .before .before .pre .0 .passes) (c .before .before .before .numbers-at .ensures) (c .form-of .ensures)) (c .before .before .value-octets .ensures .0)
 
 put-ie-requires : tie.Need-put-ie-requires
-put-ie-requires c κs = (writes-there (c .before .before .before .before .before .before .before .before .before .before .before .before .before .before .before .args .table .now) (c .before .before .before .before .before .before .before .before .before .before .before .before .before .before .before .args .rows .now) (c .before .before .before .before .before .before .before .before .before .before .before .before .before .before .before .args .received .now) (c .before .before .before .before .before .before .before .before .before .before .before .before .before .before .before .args .set .now) (c .before .before .before .before .before .before .before .before .before .before .before .before .before .before .before .args .place) (c .before .before .before .before .numbers-at .result .first) (c .before .before .before .before .before .before .before .before .before .row-at .result) (c .before .before .before .before .before .before .before .before .before .row-at .ensures) (c .before .before .before .before .before .before .before .if1 .left) (c .before .before .before .before .before .before .before .before .before .before .before .before .before .before .before .pre .0) (c .before .before .before .before .before .before .before .before .before .before .before .before .before .before .before .pre .1) (bears (c .before .before .before .before)) (form-there (c .before .before .before .before .before .before .before .before .before .before .before .before .before .before .before .args .table .now) (c .before .before .before .before .before .before .before .before .before .before .before .before .before .before .before .args .place) (c .before .before .before .before .before .before .before .before .before .before .before .before .before .before .before .pre .0 .passes) (c .before .before .before .before .numbers-at .ensures) (c .before .form-of .ensures)) (c .before .before .before .value-octets .ensures .0), simp (length-take, length-drop) (omega (arith, c .before .before .before .before .before .before .before .before .before .before .before .before .before .before .before .pre .2, ap length (piece (c .before)))))
+put-ie-requires c κs = (writes-there (c .before .before .before .before .before .before .before .before .before .before .before .before .before .before .before .args .table .now) (c .before .before .before .before .before .before .before .before .before .before .before .before .before .before .before .args .rows .now) (c .before .before .before .before .before .before .before .before .before .before .before .before .before .before .before .args .received .now) (c .before .before .before .before .before .before .before .before .before .before .before .before .before .before .before .args .set .now) (c .before .before .before .before .before .before .before .before .before .before .before .before .before .before .before .args .place) (c .before .before .before .before .numbers-at .result .first) (c .before .before .before .before .before .before .before .row-at .result) (c .before .before .before .before .before .before .before .row-at .ensures) (c .before .before .before .before .before .if2 .left) (c .before .before .before .before .before .before .before .before .before .before .before .before .before .before .before .pre .0) (c .before .before .before .before .before .before .before .before .before .before .before .before .before .before .before .pre .1) (bears (c .before .before .before .before)) (form-there (c .before .before .before .before .before .before .before .before .before .before .before .before .before .before .before .args .table .now) (c .before .before .before .before .before .before .before .before .before .before .before .before .before .before .before .args .place) (c .before .before .before .before .before .before .before .before .before .before .before .before .before .before .before .pre .0 .passes) (c .before .before .before .before .numbers-at .ensures) (c .before .form-of .ensures)) (c .before .before .before .value-octets .ensures .0), simp (length-take, length-drop) (omega (arith, c .before .before .before .before .before .before .before .before .before .before .before .before .before .before .before .pre .2, ap length (piece (c .before)))))
 
 add-result : tie.Need-add-result
 add-result c = omega (arith, c .before .before .before .before .before .before .before .before .before .before .before .before .before .before .before .before .before .before .good, c .before .before .before .before .before .before .before .before .before .before .before .before .before .before .before .before .before .before .pre .2, c .before .before .put-ie .ensures .takes, ap length (piece (c .before .before .before .before)))
@@ -80,7 +81,7 @@ written c =
     rw e (put-from (c .before .before .before .before .before .before .before .before .before .before .before .before .before .before .before .before .before .before .args .at) _ (c .before .before .before .before .before .before .before .before .before .before .before .before .before .before .before .before .before .before .args .output .now) (omega (arith, c .before .before .before .before .before .before .before .before .before .before .before .before .before .before .before .before .before .before .pre .2, ap length e)) (c .before .before .put-ie .ensures .takes) (c .before .before .put-ie .ensures .octets))
 
 same-length : tie.Need-same-length
-same-length c = ap length (written c .octets) ∙ length-overAt (c .before .before .before .before .before .before .before .before .before .before .before .before .before .before .before .before .before .before .args .at) (addedPiece (filledOf (c .before .before .before .before .before .before .before .before .before .before .before .before .before .before .before .before .before .before .args .table .now) (c .before .before .before .before .before .before .before .before .before .before .before .before .before .before .before .before .before .before .args .rows .now) (c .before .before .before .before .before .before .before .before .before .before .before .before .before .before .before .before .before .before .args .received .now) (c .before .before .before .before .before .before .before .before .before .before .before .before .before .before .before .before .before .before .args .set .now)) (setOf (c .before .before .before .before .before .before .before .before .before .before .before .before .before .before .before .before .before .before .args .seen)) (c .before .before .before .before .before .before .before .before .before .before .before .before .before .before .before .before .before .before .args .place)) (c .before .before .before .before .before .before .before .before .before .before .before .before .before .before .before .before .before .before .args .output .now) (c .before .before .before .before .before .before .before .before .before .before .before .before .before .before .before .before .before .before .pre .2)
+same-length c = ap length (written c .octets) ∙ length-overAt (c .before .before .before .before .before .before .before .before .before .before .before .before .before .before .before .before .before .before .args .at) (addedPiece (filledOf (c .before .before .before .before .before .before .before .before .before .before .before .before .before .before .before .before .before .before .args .table .now) (c .before .before .before .before .before .before .before .before .before .before .before .before .before .before .before .before .before .before .args .rows .now) (c .before .before .before .before .before .before .before .before .before .before .before .before .before .before .before .before .before .before .args .received .now) (c .before .before .before .before .before .before .before .before .before .before .before .before .before .before .before .before .before .before .args .set .now)) (setOf (c .before .before .before .before .before .before .before .before .before .before .before .before .before .before .before .before .before .before .args .added)) (c .before .before .before .before .before .before .before .before .before .before .before .before .before .before .before .before .before .before .args .place)) (c .before .before .before .before .before .before .before .before .before .before .before .before .before .before .before .before .before .before .args .output .now) (c .before .before .before .before .before .before .before .before .before .before .before .before .before .before .before .before .before .before .pre .2)
 
 returns-3 : tie.Need-returns-3
 returns-3 c = written c
@@ -89,9 +90,9 @@ pub put-first-spec : {M : Type 1} → statement M
 put-first-spec =
     tie.close
     (tie.spec
-    row-at-requires
-    returns
     seen-has-requires
+    returns
+    row-at-requires
     returns-2
     numbers-at-requires
     value-octets-requires
