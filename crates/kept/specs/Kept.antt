@@ -1,13 +1,15 @@
 -- The answers of the kept log by the definitions, and what a walk over it holds.
-use Prim.Native.Nat.{ℕ, _+_}
+use Prim.Native.Nat.{ℕ, _+_, _≤_}
 use mathlib.Core.List.{List, [], _∷_}
 use mathlib.Core.Bool.{_&&_}
 use mathlib.Core.Option.{Option, none, some}
 use lib.ListN.{length, take, drop}
 use lib.Dec.{eqb, leb}
+use denote.Ref.{RefT}
 use Rattle.definitions.specs.Basic.{pick, Answer, answer, Used, over, mostOctets}
 use Rattle.definitions.specs.Logs.{Count as DefCount, keptEntry}
 use Rattle.definitions.proofs.LogWalks.{keptLog, told}
+use Rattle.octets.specs.Places.{StandsAt}
 use Rattle.kept.specs.declared.Count.{Count}
 use Rattle.kept.specs.declared.Walk.{Walk}
 use Rattle.kept.specs.declared.Step.{Step}
@@ -49,6 +51,12 @@ abbrev pub partOf : List ℕ → List ℕ → List ℕ
 partOf log [] = []
 partOf log (start ∷ []) = []
 partOf log (start ∷ len ∷ vs) = take len (drop start log)
+
+-- such an element stands in the log at the start that is named
+abbrev pub PlacedBy : RefT (List ℕ) → List ℕ → RefT (List ℕ) → Type 0
+PlacedBy log [] part = Unit
+PlacedBy log (start ∷ []) part = Unit
+PlacedBy log (start ∷ len ∷ vs) part = start ≤ length (log .now) → StandsAt start log part
 
 -- ---- a walk
 

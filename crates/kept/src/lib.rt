@@ -10,7 +10,7 @@ ghost use lib.ListN.{length, drop};
 ghost use Rattle.definitions.specs.Basic.{over, tooLong};
 ghost use Rattle.definitions.specs.Logs.{leb128, keptEntry, countAt, allowed, keptList, keptPush, keptCount, keptGet, keptClear};
 ghost use Rattle.definitions.proofs.Logs.{entryOf};
-ghost use Rattle.kept.specs.Kept.{countOf, countFrom, stepOf, toldBy, tell, startWalk, pushedAs, countedAs, gotAs, usedOf, partOf, keptInto, keptTakes};
+ghost use Rattle.kept.specs.Kept.{countOf, countFrom, stepOf, toldBy, tell, startWalk, pushedAs, countedAs, gotAs, usedOf, partOf, PlacedBy, keptInto, keptTakes};
 
 // The most octets of a log that are used.
 pub const MOST_LOG: usize = 131_070;
@@ -236,6 +236,7 @@ pub fn kept_get(log: &[u8], used: usize, k: usize) -> Got
 // The same as a part of the log, IEI first; no octet where there is none.
 pub fn kept_element(log: &[u8], used: usize, k: usize) -> &[u8]
     ensures { λ r. ⌜ now r ≡ partOf (now (log .entry)) (keptGet (usedOf (now (log .entry)) used) k .values) ⌝ }
+    ensures { λ r. ⌜ PlacedBy (log .entry) (keptGet (usedOf (now (log .entry)) used) k .values) r ⌝ }
 {
     match kept_get(log, used, k) {
         Got::Element(start, len) => part(log, start, len),

@@ -1,10 +1,11 @@
 // Reading octets from a lent slice, with a cursor by value. Past the end each answer is Short, and nothing is read.
 ghost use mathlib.Core.Path.{_≡_};
-ghost use Prim.Native.Nat.{_+_, _*_};
+ghost use Prim.Native.Nat.{_+_, _*_, _≤_};
 ghost use lib.ListN.{length, take, drop};
 ghost use Rattle.definitions.specs.Basic.{over};
 ghost use Rattle.definitions.specs.Octets.{remaining, run, numberAt};
 ghost use Rattle.octets.specs.Answers.{runOf, movedOf, octetOf, pairOf, fourOf, octetsOf};
+ghost use Rattle.octets.specs.Places.{StandsAt};
 
 mod copying;
 
@@ -101,6 +102,7 @@ impl Cursor {
     // The next n octets themselves, as a part of the slice; no octet where there are fewer.
     pub fn split_to(self, s: &[u8], n: usize) -> &[u8]
         ensures { λ r. ⌜ now r ≡ octetsOf (run n (self .at) (now (s .entry))) ⌝ }
+        ensures { λ r. ⌜ (self .at + n ≤ length (now (s .entry)) → StandsAt (self .at) (s .entry) r) ⌝ }
     {
         let at = self.at;
         if at > s.len() {
@@ -155,8 +157,9 @@ impl Cursor {
 // The octets from a start on, at most so many: as far as there are any.
 pub fn part(s: &[u8], start: usize, len: usize) -> &[u8]
     ensures { λ r. ⌜ now r ≡ take len (drop start (now (s .entry))) ⌝ }
+    ensures { λ r. ⌜ (start ≤ length (now (s .entry)) → StandsAt start (s .entry) r) ⌝ }
 {
-    if start >= s.len() {
+    if start > s.len() {
         return &s[..0];
     }
     if len >= s.len() - start {

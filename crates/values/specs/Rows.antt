@@ -1,7 +1,11 @@
--- The numbers of a place's row, and where its value comes from.
-use Prim.Native.Nat.{ℕ}
+-- The numbers of a place's row, where its value comes from, and where the octets of the value stand.
+use Prim.Native.Nat.{ℕ, _≤_, _<_}
+use mathlib.Core.Path.{_≡_}
 use mathlib.Core.List.{List}
+use lib.ListN.{length}
+use denote.Ref.{RefT}
 use Rattle.definitions.specs.Values.{Octets, Value}
+use Rattle.octets.specs.Places.{StandsAt}
 use Rattle.values.specs.declared.row.ValueRow.{ValueRow}
 
 abbrev pub valueOf : ValueRow → Value
@@ -9,3 +13,9 @@ valueOf r = record { source = r .source; start = r .start; size = r .len }
 
 abbrev pub sourcesOf : List ℕ → List ℕ → Octets
 sourcesOf received set = record { received = received; set = set }
+
+-- the octets of a value stand at its start in those that its row names, as `sourceOf` reads it; a start past their end has no octet
+abbrev pub PlacedAs : RefT (List ℕ) → RefT (List ℕ) → Value → RefT (List ℕ) → Type 0
+PlacedAs received set v part =
+    (v .source ≡ 1 → v .start ≤ length (received .now) → StandsAt (v .start) received part)
+    × (1 < v .source → v .start ≤ length (set .now) → StandsAt (v .start) set part)

@@ -6,7 +6,7 @@ ghost use Prim.Native.Nat.{_*_, _<_};
 ghost use lib.ListN.{getD, drop};
 ghost use Rattle.definitions.specs.Values.{valueAt, octetsAt, goodValue, badRows, fits};
 ghost use Rattle.rows.specs.Forms.{formAs};
-ghost use Rattle.values.specs.Rows.{valueOf, sourcesOf};
+ghost use Rattle.values.specs.Rows.{valueOf, sourcesOf, PlacedAs};
 
 // The three numbers of a place: source, start and length of its value.
 pub struct ValueRow {
@@ -91,6 +91,7 @@ pub fn any_bad(rows: &[u32], n: usize, received: &[u8], set: &[u8]) -> bool
 // The octets of a value: a part of the received or of the set octets, whichever its row names; none of an absent one.
 pub fn value_octets<'a>(received: &'a [u8], set: &'a [u8], row: ValueRow) -> &'a [u8]
     ensures { λ r. ⌜ now r ≡ octetsAt (sourcesOf (now (received .entry)) (now (set .entry))) (valueOf row) ⌝ }
+    ensures { λ r. ⌜ PlacedAs (received .entry) (set .entry) (valueOf row) r ⌝ }
 {
     let source = row.source;
     let start = wide(row.start);

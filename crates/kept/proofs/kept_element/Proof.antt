@@ -1,8 +1,7 @@
 -- `kept_element` is the part of the log that `kept_get` names.
 -- Each arm names what `kept_get` answered.
-use mathlib.Core.Path.{ap, sym, _∙_}
-use Rattle.definitions.specs.Basic.{Answer}
-use Rattle.kept.specs.Kept.{gotAs, partOf}
+use mathlib.Core.Path.{refl, ap, sym, _∙_}
+use Rattle.kept.specs.Kept.{gotAs}
 use borrow.Author.Needs.{needs}
 use Rattle.kept.proofs.kept_element.Statement.{statement}
 use Rattle.kept.proofs.kept_element.Tie as tie
@@ -35,16 +34,17 @@ slice-aggregate-result-3 : tie.Need-slice-aggregate-result-3
 slice-aggregate-result-3 c = search needs
 
 returns : tie.Need-returns
-returns c = c .part .ensures ∙ ap (λ (a : Answer). partOf (c .before .before .before .before .before .before .args .log .now) (a .values)) (ap gotAs (sym (c .before .before .start .given .1)) ∙ c .before .before .before .before .kept-get .ensures)
+returns c =
+    rw (← (ap gotAs (sym (c .before .before .start .given .1)) ∙ c .before .before .before .before .kept-get .ensures)) (c .part .ensures)
 
 returns-2 : tie.Need-returns-2
-returns-2 c = ap (λ (a : Answer). partOf (c .before .before .before .before .before .args .log .now) (a .values)) (ap gotAs (sym (c .before .enum-told .given .1)) ∙ c .before .before .before .kept-get .ensures)
+returns-2 c = rw (← (ap gotAs (sym (c .before .enum-told .given .1)) ∙ c .before .before .before .kept-get .ensures)) (refl, tt)
 
 returns-3 : tie.Need-returns-3
-returns-3 c = ap (λ (a : Answer). partOf (c .before .before .before .before .before .args .log .now) (a .values)) (ap gotAs (sym (c .before .enum-told2 .given .1)) ∙ c .before .before .before .kept-get .ensures)
+returns-3 c = rw (← (ap gotAs (sym (c .before .enum-told2 .given .1)) ∙ c .before .before .before .kept-get .ensures)) (refl, tt)
 
 returns-4 : tie.Need-returns-4
-returns-4 c = ap (λ (a : Answer). partOf (c .before .before .before .before .before .args .log .now) (a .values)) (ap gotAs (sym (c .before .enum-told3 .given .1)) ∙ c .before .before .before .kept-get .ensures)
+returns-4 c = rw (← (ap gotAs (sym (c .before .enum-told3 .given .1)) ∙ c .before .before .before .kept-get .ensures)) (refl, tt)
 
 pub kept-element-spec : {M : Type 1} → statement M
 kept-element-spec =

@@ -1,8 +1,8 @@
 -- `part` is a part of the slice, cut off at its end.
--- Past the end it is empty; a part that reaches the end is all that is left.
+-- Past the end it is empty; a part that reaches the end is all that is left. Each that begins within stands at its start.
 use Prim.Native.Nat.{ℕ, _+_, _-_}
 use native.Mathlib.Omega.{arith}
-use mathlib.Core.Path.{_≡_, sym, ap, _∙_}
+use mathlib.Core.Path.{_≡_, refl, sym, ap, _∙_}
 use lib.ListN.{length, take, drop, drop-of-length-le, length-drop}
 use lib.Seq.{take-all, take-nil}
 use Rattle.definitions.proofs.Lists.{to-end}
@@ -14,7 +14,9 @@ slice-aggregate-result : tie.Need-slice-aggregate-result
 slice-aggregate-result c = search needs
 
 returns : tie.Need-returns
-returns c = let a = c .before .before .args in sym (ap (take (a .len)) (drop-of-length-le (a .s .now) {i = a .start} (omega arith)) ∙ take-nil (a .len))
+returns c =
+    let a = c .before .before .args in
+    (sym (ap (take (a .len)) (drop-of-length-le (a .s .now) {i = a .start} (omega arith)) ∙ take-nil (a .len)), λ h. absurd (omega arith))
 
 sub-if2 : tie.Need-sub-if2
 sub-if2 c = search needs
@@ -29,7 +31,9 @@ part-result-end : tie.Need-part-result-end
 part-result-end c = search needs
 
 returns-2 : tie.Need-returns-2
-returns-2 c = let a = c .before .before .before .args in to-end (a .start) (a .s .now) ∙ sym (take-all (a .len) (drop (a .start) (a .s .now)) (simp length-drop (omega arith)))
+returns-2 c =
+    let a = c .before .before .before .args in
+    (to-end (a .start) (a .s .now) ∙ sym (take-all (a .len) (drop (a .start) (a .s .now)) (simp length-drop (omega arith))), λ h. refl)
 
 add-end : tie.Need-add-end
 add-end c = search needs
@@ -44,7 +48,9 @@ part-result-end-2 : tie.Need-part-result-end-2
 part-result-end-2 c = search needs
 
 returns-3 : tie.Need-returns-3
-returns-3 c = let a = c .before .before .before .args in let e : a .start + a .len - a .start ≡ a .len = omega arith in ap (λ (n : ℕ). take n (drop (a .start) (a .s .now))) e
+returns-3 c =
+    let a = c .before .before .before .args in let e : a .start + a .len - a .start ≡ a .len = omega arith in
+    (ap (λ (n : ℕ). take n (drop (a .start) (a .s .now))) e, λ h. refl)
 
 pub part-spec : {M : Type 1} → statement M
 part-spec =

@@ -35,7 +35,7 @@ encode-octets-requires : tie.Need-encode-octets-requires
 encode-octets-requires c κs =
     let a = c .before .before .before .before .before .before .before .before .before .before .before .args in
     let s = short-of (a .received .now) (usedOf (a .set .now) (a .set-used)) 0 (sym (c .before .before .before .before .before .too-long .ensures) ∙ c .before .before .before .before .if1 .left) in
-    (record { received-short = s .received-short; set-short = rw (c .before .part .ensures) (simp length-take (omega (arith, s .short))) }, few-mandatory (mandatoryRowsOf (a .table .now)) (c .before .before .before .before .before .before .before .before .before .before .before .pre))
+    (record { received-short = s .received-short; set-short = rw (c .before .part .ensures .0) (simp length-take (omega (arith, s .short))) }, few-mandatory (mandatoryRowsOf (a .table .now)) (c .before .before .before .before .before .before .before .before .before .before .before .pre))
 
 same-length : tie.Need-same-length
 same-length c = search needs
@@ -44,7 +44,7 @@ returns-3 : tie.Need-returns-3
 unfolding content
 returns-3 c =
     let a = c .before .before .before .before .before .before .before .before .before .before .before .before .before .before .args in
-    rw (writing-rest (a .table .now) (a .rows .now) (a .received .now) (usedOf (a .set .now) (a .set-used)) (a .output .now) (c .before .before .before .before .before .before .before .before .before .before .before .before .before .before .pre) (sym (long-none (a .received .now) (usedOf (a .set .now) (a .set-used))) ∙ sym (c .before .before .before .before .before .before .before .before .too-long .ensures) ∙ c .before .before .before .before .before .before .before .if1 .left) (omega (arith, c .before .before .before .before .before .before .mandatory-rows .ensures))) (rw (c .before .before .before .before .part .ensures) at (c .before .before .encode-octets .ensures))
+    rw (writing-rest (a .table .now) (a .rows .now) (a .received .now) (usedOf (a .set .now) (a .set-used)) (a .output .now) (c .before .before .before .before .before .before .before .before .before .before .before .before .before .before .pre) (sym (long-none (a .received .now) (usedOf (a .set .now) (a .set-used))) ∙ sym (c .before .before .before .before .before .before .before .before .too-long .ensures) ∙ c .before .before .before .before .before .before .before .if1 .left) (omega (arith, c .before .before .before .before .before .before .mandatory-rows .ensures))) (rw (c .before .before .before .before .part .ensures .0) at (c .before .before .encode-octets .ensures))
 
 pub encode-checked-spec : {M : Type 1} → statement M
 encode-checked-spec =

@@ -23,7 +23,7 @@ fits-mandatory-requires c κs = search needs
 
 returns : tie.Need-returns
 unfolding fitsAt
-returns c = c .fits-mandatory .ensures ∙ fits-is (c .before .before .mandatory-form-at .ensures) (ap (λ (v : Value). v .source) (c .before .before .before .row-at .ensures)) (c .before .value-octets .ensures ∙ ap (octetsAt (sourcesOf (c .before .before .before .before .before .before .before .before .args .received .now) (c .before .before .before .before .before .before .before .before .args .set .now))) (c .before .before .before .row-at .ensures))
+returns c = c .fits-mandatory .ensures ∙ fits-is (c .before .before .mandatory-form-at .ensures) (ap (λ (v : Value). v .source) (c .before .before .before .row-at .ensures)) (c .before .value-octets .ensures .0 ∙ ap (octetsAt (sourcesOf (c .before .before .before .before .before .before .before .before .args .received .now) (c .before .before .before .before .before .before .before .before .args .set .now))) (c .before .before .before .row-at .ensures))
 
 pub row-fits-spec : {M : Type 1} → statement M
 row-fits-spec =

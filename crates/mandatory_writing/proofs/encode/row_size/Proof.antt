@@ -23,11 +23,11 @@ mandatory-form-at-requires : tie.Need-mandatory-form-at-requires
 mandatory-form-at-requires c κs = search needs
 
 encoded-size-requires : tie.Need-encoded-size-requires
-encoded-size-requires c κs = rw (c .before .value-octets .ensures ∙ ap (octetsAt (sourcesOf (c .before .before .before .before .before .before .before .args .received .now) (c .before .before .before .before .before .before .before .args .set .now))) (c .before .before .row-at .ensures)) (value-short (c .before .before .before .before .before .before .before .args .received .now) (c .before .before .before .before .before .before .before .args .set .now) (valueAt (c .before .before .before .before .before .before .before .args .rows .now) (c .before .before .before .before .before .before .before .args .k)) (c .before .before .before .before .before .before .before .pre))
+encoded-size-requires c κs = rw (c .before .value-octets .ensures .0 ∙ ap (octetsAt (sourcesOf (c .before .before .before .before .before .before .before .args .received .now) (c .before .before .before .before .before .before .before .args .set .now))) (c .before .before .row-at .ensures)) (value-short (c .before .before .before .before .before .before .before .args .received .now) (c .before .before .before .before .before .before .before .args .set .now) (valueAt (c .before .before .before .before .before .before .before .args .rows .now) (c .before .before .before .before .before .before .before .args .k)) (c .before .before .before .before .before .before .before .pre))
 
 sized : (c : tie.After-encoded-size) → c .encoded-size .result ≡ sizeAt (mandatoryRowAt (mandatoryRowsOf (c .before .before .before .before .before .before .before .before .args .table .now)) (c .before .before .before .before .before .before .before .before .args .k)) (sourcesOf (c .before .before .before .before .before .before .before .before .args .received .now) (c .before .before .before .before .before .before .before .before .args .set .now)) (c .before .before .before .before .before .before .before .before .args .rows .now) (c .before .before .before .before .before .before .before .before .args .k)
 unfolding sizeAt
-sized c = c .encoded-size .ensures ∙ ap₂ (λ (f : MandatoryForm) (s : List ℕ). encodedSize f (length s)) (c .before .mandatory-form-at .ensures) (c .before .before .value-octets .ensures ∙ ap (octetsAt (sourcesOf (c .before .before .before .before .before .before .before .before .args .received .now) (c .before .before .before .before .before .before .before .before .args .set .now))) (c .before .before .before .row-at .ensures))
+sized c = c .encoded-size .ensures ∙ ap₂ (λ (f : MandatoryForm) (s : List ℕ). encodedSize f (length s)) (c .before .mandatory-form-at .ensures) (c .before .before .value-octets .ensures .0 ∙ ap (octetsAt (sourcesOf (c .before .before .before .before .before .before .before .before .args .received .now) (c .before .before .before .before .before .before .before .before .args .set .now))) (c .before .before .before .row-at .ensures))
 
 returns : tie.Need-returns
 returns c = let e = sized c in (e, rw e (size-short (c .before .before .before .before .before .before .before .before .args .received .now) (c .before .before .before .before .before .before .before .before .args .set .now) (c .before .before .before .before .before .before .before .before .args .rows .now) (mandatoryRowAt (mandatoryRowsOf (c .before .before .before .before .before .before .before .before .args .table .now)) (c .before .before .before .before .before .before .before .before .args .k)) (c .before .before .before .before .before .before .before .before .args .k) (c .before .before .before .before .before .before .before .before .pre)))

@@ -50,21 +50,21 @@ part-put-row-end c = search needs
 
 -- the row that is written is the definition's
 row-here : (c : tie.After-put-row-arg Inv-loop μ-loop) → encodedRow (mandatoryFormAs (c .before .mandatory-form-at .result)) (c .before .before .before .before .before .loop .low) (c .before .before .before .row-at .result .source) (c .before .before .value-octets .result .now) ≡ (encodedRow (mandatoryForm (mandatoryRowAt (mandatoryRowsOf (c .before .before .before .before .before .before .before .before .before .before .before .before .args .table .now)) (c .before .before .before .before .before .loop .k))) (c .before .before .before .before .before .loop .low) ((valueAt (c .before .before .before .before .before .before .before .before .before .before .before .before .args .rows .now) (c .before .before .before .before .before .loop .k)) .source) (octetsAt (sourcesOf (c .before .before .before .before .before .before .before .before .before .before .before .before .args .received .now) (c .before .before .before .before .before .before .before .before .before .before .before .before .args .set .now)) (valueAt (c .before .before .before .before .before .before .before .before .before .before .before .before .args .rows .now) (c .before .before .before .before .before .loop .k))))
-row-here c = row-is (c .before .before .before .before .before .loop .low) (c .before .mandatory-form-at .ensures) (ap (λ (v : Value). v .source) (c .before .before .before .row-at .ensures)) (c .before .before .value-octets .ensures ∙ ap (octetsAt (sourcesOf (c .before .before .before .before .before .before .before .before .before .before .before .before .args .received .now) (c .before .before .before .before .before .before .before .before .before .before .before .before .args .set .now))) (c .before .before .before .row-at .ensures))
+row-here c = row-is (c .before .before .before .before .before .loop .low) (c .before .mandatory-form-at .ensures) (ap (λ (v : Value). v .source) (c .before .before .before .row-at .ensures)) (c .before .before .value-octets .ensures .0 ∙ ap (octetsAt (sourcesOf (c .before .before .before .before .before .before .before .before .before .before .before .before .args .received .now) (c .before .before .before .before .before .before .before .before .before .before .before .before .args .set .now))) (c .before .before .before .row-at .ensures))
 
 put-row-requires : tie.Need-put-row-requires Inv-loop μ-loop
 put-row-requires c κs = (
-  fits-is (c .before .mandatory-form-at .ensures) (ap (λ (v : Value). v .source) (c .before .before .before .row-at .ensures)) (c .before .before .value-octets .ensures ∙ ap (octetsAt (sourcesOf (c .before .before .before .before .before .before .before .before .before .before .before .before .args .received .now) (c .before .before .before .before .before .before .before .before .before .before .before .before .args .set .now))) (c .before .before .before .row-at .ensures)) ∙ fits-here (mandatoryRowsOf (c .before .before .before .before .before .before .before .before .before .before .before .before .args .table .now)) (sourcesOf (c .before .before .before .before .before .before .before .before .before .before .before .before .args .received .now) (c .before .before .before .before .before .before .before .before .before .before .before .before .args .set .now)) (c .before .before .before .before .before .before .before .before .before .before .before .before .args .rows .now) (c .before .before .before .before .before .before .before .before .before .before .before .before .pre .fit) (c .before .before .before .before .before .loop .k) (omega (arith, c .before .before .before .before .before .before .mandatory-rows .ensures)),
+  fits-is (c .before .mandatory-form-at .ensures) (ap (λ (v : Value). v .source) (c .before .before .before .row-at .ensures)) (c .before .before .value-octets .ensures .0 ∙ ap (octetsAt (sourcesOf (c .before .before .before .before .before .before .before .before .before .before .before .before .args .received .now) (c .before .before .before .before .before .before .before .before .before .before .before .before .args .set .now))) (c .before .before .before .row-at .ensures)) ∙ fits-here (mandatoryRowsOf (c .before .before .before .before .before .before .before .before .before .before .before .before .args .table .now)) (sourcesOf (c .before .before .before .before .before .before .before .before .before .before .before .before .args .received .now) (c .before .before .before .before .before .before .before .before .before .before .before .before .args .set .now)) (c .before .before .before .before .before .before .before .before .before .before .before .before .args .rows .now) (c .before .before .before .before .before .before .before .before .before .before .before .before .pre .fit) (c .before .before .before .before .before .loop .k) (omega (arith, c .before .before .before .before .before .before .mandatory-rows .ensures)),
   rw (row-here c) (simp (length-take, length-drop) (omega (arith, row-room (mandatoryRowsOf (c .before .before .before .before .before .before .before .before .before .before .before .before .args .table .now)) (sourcesOf (c .before .before .before .before .before .before .before .before .before .before .before .before .args .received .now) (c .before .before .before .before .before .before .before .before .before .before .before .before .args .set .now)) (c .before .before .before .before .before .before .before .before .before .before .before .before .args .rows .now) (c .before .before .before .before .before .before .before .before .before .before .before .before .args .output .now) (c .before .before .before .before .before .loop .k) (c .before .before .before .before .before .loop .at) (c .before .before .before .before .before .loop .low) (c .before .before .before .before .before .loop .output) (c .before .before .before .before .before .loop .inv) (omega (arith, c .before .before .before .before .before .before .mandatory-rows .ensures))))),
   c .before .before .before .before .before .loop .inv .half,
 )
 
 encoded-size-requires : tie.Need-encoded-size-requires Inv-loop μ-loop
-encoded-size-requires c κs = rw (c .before .before .before .before .before .value-octets .ensures ∙ ap (octetsAt (sourcesOf (c .before .before .before .before .before .before .before .before .before .before .before .before .before .before .before .args .received .now) (c .before .before .before .before .before .before .before .before .before .before .before .before .before .before .before .args .set .now))) (c .before .before .before .before .before .before .row-at .ensures)) (value-short (c .before .before .before .before .before .before .before .before .before .before .before .before .before .before .before .args .received .now) (c .before .before .before .before .before .before .before .before .before .before .before .before .before .before .before .args .set .now) (valueAt (c .before .before .before .before .before .before .before .before .before .before .before .before .before .before .before .args .rows .now) (c .before .before .before .before .before .before .before .before .loop .k)) (c .before .before .before .before .before .before .before .before .before .before .before .before .before .before .before .pre .short))
+encoded-size-requires c κs = rw (c .before .before .before .before .before .value-octets .ensures .0 ∙ ap (octetsAt (sourcesOf (c .before .before .before .before .before .before .before .before .before .before .before .before .before .before .before .args .received .now) (c .before .before .before .before .before .before .before .before .before .before .before .before .before .before .before .args .set .now))) (c .before .before .before .before .before .before .row-at .ensures)) (value-short (c .before .before .before .before .before .before .before .before .before .before .before .before .before .before .before .args .received .now) (c .before .before .before .before .before .before .before .before .before .before .before .before .before .before .before .args .set .now) (valueAt (c .before .before .before .before .before .before .before .before .before .before .before .before .before .before .before .args .rows .now) (c .before .before .before .before .before .before .before .before .loop .k)) (c .before .before .before .before .before .before .before .before .before .before .before .before .before .before .before .pre .short))
 
 -- how many octets it has
 size-here : (c : tie.After-encoded-size Inv-loop μ-loop) → c .encoded-size .result ≡ length (encodedRow (mandatoryForm (mandatoryRowAt (mandatoryRowsOf (c .before .before .before .before .before .before .before .before .before .before .before .before .before .before .before .before .args .table .now)) (c .before .before .before .before .before .before .before .before .before .loop .k))) (c .before .before .before .before .before .before .before .before .before .loop .low) ((valueAt (c .before .before .before .before .before .before .before .before .before .before .before .before .before .before .before .before .args .rows .now) (c .before .before .before .before .before .before .before .before .before .loop .k)) .source) (octetsAt (sourcesOf (c .before .before .before .before .before .before .before .before .before .before .before .before .before .before .before .before .args .received .now) (c .before .before .before .before .before .before .before .before .before .before .before .before .before .before .before .before .args .set .now)) (valueAt (c .before .before .before .before .before .before .before .before .before .before .before .before .before .before .before .before .args .rows .now) (c .before .before .before .before .before .before .before .before .before .loop .k))))
-size-here c = c .encoded-size .ensures ∙ ap₂ (λ (f : MandatoryForm) (s : List ℕ). encodedSize f (length s)) (c .before .before .before .before .before .mandatory-form-at .ensures) (c .before .before .before .before .before .before .value-octets .ensures ∙ ap (octetsAt (sourcesOf (c .before .before .before .before .before .before .before .before .before .before .before .before .before .before .before .before .args .received .now) (c .before .before .before .before .before .before .before .before .before .before .before .before .before .before .before .before .args .set .now))) (c .before .before .before .before .before .before .before .row-at .ensures)) ∙ sym (encoded-size (mandatoryForm (mandatoryRowAt (mandatoryRowsOf (c .before .before .before .before .before .before .before .before .before .before .before .before .before .before .before .before .args .table .now)) (c .before .before .before .before .before .before .before .before .before .loop .k))) (c .before .before .before .before .before .before .before .before .before .loop .low) ((valueAt (c .before .before .before .before .before .before .before .before .before .before .before .before .before .before .before .before .args .rows .now) (c .before .before .before .before .before .before .before .before .before .loop .k)) .source) (octetsAt (sourcesOf (c .before .before .before .before .before .before .before .before .before .before .before .before .before .before .before .before .args .received .now) (c .before .before .before .before .before .before .before .before .before .before .before .before .before .before .before .before .args .set .now)) (valueAt (c .before .before .before .before .before .before .before .before .before .before .before .before .before .before .before .before .args .rows .now) (c .before .before .before .before .before .before .before .before .before .loop .k))))
+size-here c = c .encoded-size .ensures ∙ ap₂ (λ (f : MandatoryForm) (s : List ℕ). encodedSize f (length s)) (c .before .before .before .before .before .mandatory-form-at .ensures) (c .before .before .before .before .before .before .value-octets .ensures .0 ∙ ap (octetsAt (sourcesOf (c .before .before .before .before .before .before .before .before .before .before .before .before .before .before .before .before .args .received .now) (c .before .before .before .before .before .before .before .before .before .before .before .before .before .before .before .before .args .set .now))) (c .before .before .before .before .before .before .before .row-at .ensures)) ∙ sym (encoded-size (mandatoryForm (mandatoryRowAt (mandatoryRowsOf (c .before .before .before .before .before .before .before .before .before .before .before .before .before .before .before .before .args .table .now)) (c .before .before .before .before .before .before .before .before .before .loop .k))) (c .before .before .before .before .before .before .before .before .before .loop .low) ((valueAt (c .before .before .before .before .before .before .before .before .before .before .before .before .before .before .before .before .args .rows .now) (c .before .before .before .before .before .before .before .before .before .loop .k)) .source) (octetsAt (sourcesOf (c .before .before .before .before .before .before .before .before .before .before .before .before .before .before .before .before .args .received .now) (c .before .before .before .before .before .before .before .before .before .before .before .before .before .before .before .before .args .set .now)) (valueAt (c .before .before .before .before .before .before .before .before .before .before .before .before .before .before .before .before .args .rows .now) (c .before .before .before .before .before .before .before .before .before .loop .k))))
 
 add-at : tie.Need-add-at Inv-loop μ-loop
 add-at c = omega (arith, size-here c, row-room (mandatoryRowsOf (c .before .before .before .before .before .before .before .before .before .before .before .before .before .before .before .before .args .table .now)) (sourcesOf (c .before .before .before .before .before .before .before .before .before .before .before .before .before .before .before .before .args .received .now) (c .before .before .before .before .before .before .before .before .before .before .before .before .before .before .before .before .args .set .now)) (c .before .before .before .before .before .before .before .before .before .before .before .before .before .before .before .before .args .rows .now) (c .before .before .before .before .before .before .before .before .before .before .before .before .before .before .before .before .args .output .now) (c .before .before .before .before .before .before .before .before .before .loop .k) (c .before .before .before .before .before .before .before .before .before .loop .at) (c .before .before .before .before .before .before .before .before .before .loop .low) (c .before .before .before .before .before .before .before .before .before .loop .output) (c .before .before .before .before .before .before .before .before .before .loop .inv) (omega (arith, c .before .before .before .before .before .before .before .before .before .before .mandatory-rows .ensures)))
@@ -82,7 +82,7 @@ loop-again : tie.Need-loop-again Inv-loop μ-loop
 loop-again c =
     let q = row-room (mandatoryRowsOf (c .before .before .before .before .before .before .before .before .before .before .before .before .before .before .before .before .before .args .table .now)) (sourcesOf (c .before .before .before .before .before .before .before .before .before .before .before .before .before .before .before .before .before .args .received .now) (c .before .before .before .before .before .before .before .before .before .before .before .before .before .before .before .before .before .args .set .now)) (c .before .before .before .before .before .before .before .before .before .before .before .before .before .before .before .before .before .args .rows .now) (c .before .before .before .before .before .before .before .before .before .before .before .before .before .before .before .before .before .args .output .now) (c .before .before .before .before .before .before .before .before .before .before .loop .k) (c .before .before .before .before .before .before .before .before .before .before .loop .at) (c .before .before .before .before .before .before .before .before .before .before .loop .low) (c .before .before .before .before .before .before .before .before .before .before .loop .output) (c .before .before .before .before .before .before .before .before .before .before .loop .inv) (omega (arith, c .before .before .before .before .before .before .before .before .before .before .before .mandatory-rows .ensures)) in
     rw (size-here (c .before))
-    (laid-one (mandatoryRowsOf (c .before .before .before .before .before .before .before .before .before .before .before .before .before .before .before .before .before .args .table .now)) (sourcesOf (c .before .before .before .before .before .before .before .before .before .before .before .before .before .before .before .before .before .args .received .now) (c .before .before .before .before .before .before .before .before .before .before .before .before .before .before .before .before .before .args .set .now)) (c .before .before .before .before .before .before .before .before .before .before .before .before .before .before .before .before .before .args .rows .now) (c .before .before .before .before .before .before .before .before .before .before .before .before .before .before .before .before .before .args .output .now) (c .before .before .before .before .before .before .before .before .before .before .loop .k) (c .before .before .before .before .before .before .before .before .before .before .loop .at) (c .before .before .before .before .before .before .before .before .before .before .loop .low) (c .before .before .before .before .before .before .before .before .before .before .loop .output) (c .before .before .before .before .before .before .before .before .before .before .loop .inv) (omega (arith, c .before .before .before .before .before .before .before .before .before .before .before .mandatory-rows .ensures)) (rw (c .before .before .before .before .put-row .ensures, row-here (c .before .before .before .before .before)) (lent-over (c .before .before .before .before .before .before .before .before .before .before .loop .at) (encodedRow (mandatoryForm (mandatoryRowAt (mandatoryRowsOf (c .before .before .before .before .before .before .before .before .before .before .before .before .before .before .before .before .before .args .table .now)) (c .before .before .before .before .before .before .before .before .before .before .loop .k))) (c .before .before .before .before .before .before .before .before .before .before .loop .low) ((valueAt (c .before .before .before .before .before .before .before .before .before .before .before .before .before .before .before .before .before .args .rows .now) (c .before .before .before .before .before .before .before .before .before .before .loop .k)) .source) (octetsAt (sourcesOf (c .before .before .before .before .before .before .before .before .before .before .before .before .before .before .before .before .before .args .received .now) (c .before .before .before .before .before .before .before .before .before .before .before .before .before .before .before .before .before .args .set .now)) (valueAt (c .before .before .before .before .before .before .before .before .before .before .before .before .before .before .before .before .before .args .rows .now) (c .before .before .before .before .before .before .before .before .before .before .loop .k)))) (c .before .before .before .before .before .before .before .before .before .before .loop .output) (omega arith))) (c .low-bits .ensures .0 ∙ ap (λ (s : List ℕ). lowBits (getD s 0 0)) (c .before .before .before .before .before .before .before .value-octets .ensures ∙ ap (octetsAt (sourcesOf (c .before .before .before .before .before .before .before .before .before .before .before .before .before .before .before .before .before .args .received .now) (c .before .before .before .before .before .before .before .before .before .before .before .before .before .before .before .before .before .args .set .now))) (c .before .before .before .before .before .before .before .before .row-at .ensures))) (c .low-bits .ensures .1))
+    (laid-one (mandatoryRowsOf (c .before .before .before .before .before .before .before .before .before .before .before .before .before .before .before .before .before .args .table .now)) (sourcesOf (c .before .before .before .before .before .before .before .before .before .before .before .before .before .before .before .before .before .args .received .now) (c .before .before .before .before .before .before .before .before .before .before .before .before .before .before .before .before .before .args .set .now)) (c .before .before .before .before .before .before .before .before .before .before .before .before .before .before .before .before .before .args .rows .now) (c .before .before .before .before .before .before .before .before .before .before .before .before .before .before .before .before .before .args .output .now) (c .before .before .before .before .before .before .before .before .before .before .loop .k) (c .before .before .before .before .before .before .before .before .before .before .loop .at) (c .before .before .before .before .before .before .before .before .before .before .loop .low) (c .before .before .before .before .before .before .before .before .before .before .loop .output) (c .before .before .before .before .before .before .before .before .before .before .loop .inv) (omega (arith, c .before .before .before .before .before .before .before .before .before .before .before .mandatory-rows .ensures)) (rw (c .before .before .before .before .put-row .ensures, row-here (c .before .before .before .before .before)) (lent-over (c .before .before .before .before .before .before .before .before .before .before .loop .at) (encodedRow (mandatoryForm (mandatoryRowAt (mandatoryRowsOf (c .before .before .before .before .before .before .before .before .before .before .before .before .before .before .before .before .before .args .table .now)) (c .before .before .before .before .before .before .before .before .before .before .loop .k))) (c .before .before .before .before .before .before .before .before .before .before .loop .low) ((valueAt (c .before .before .before .before .before .before .before .before .before .before .before .before .before .before .before .before .before .args .rows .now) (c .before .before .before .before .before .before .before .before .before .before .loop .k)) .source) (octetsAt (sourcesOf (c .before .before .before .before .before .before .before .before .before .before .before .before .before .before .before .before .before .args .received .now) (c .before .before .before .before .before .before .before .before .before .before .before .before .before .before .before .before .before .args .set .now)) (valueAt (c .before .before .before .before .before .before .before .before .before .before .before .before .before .before .before .before .before .args .rows .now) (c .before .before .before .before .before .before .before .before .before .before .loop .k)))) (c .before .before .before .before .before .before .before .before .before .before .loop .output) (omega arith))) (c .low-bits .ensures .0 ∙ ap (λ (s : List ℕ). lowBits (getD s 0 0)) (c .before .before .before .before .before .before .before .value-octets .ensures .0 ∙ ap (octetsAt (sourcesOf (c .before .before .before .before .before .before .before .before .before .before .before .before .before .before .before .before .before .args .received .now) (c .before .before .before .before .before .before .before .before .before .before .before .before .before .before .before .before .before .args .set .now))) (c .before .before .before .before .before .before .before .before .row-at .ensures))) (c .low-bits .ensures .1))
 
 same-length : tie.Need-same-length Inv-loop μ-loop
 same-length c = c .before .loop .inv .size

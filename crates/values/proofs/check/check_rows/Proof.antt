@@ -42,7 +42,7 @@ any-bad-requires c κs = search needs
 -- what every row says, by the rows' number and the set octets that are used
 rows-bad : (c : tie.After-any-bad) → let a = c .before .before .before .before .before .before .before .before .before .before .args in badRows (sourcesOf (a .received .now) (content (usedOf (a .set .now) (a .used)))) (a .rows .now) (length (rowsOf (a .table .now))) ≡ c .any-bad .result
 unfolding content
-rows-bad c = sym (c .any-bad .ensures ∙ rw (c .before .part .ensures, c .before .before .before .places .ensures))
+rows-bad c = sym (c .any-bad .ensures ∙ rw (c .before .part .ensures .0, c .before .before .before .places .ensures))
 
 returns-3 : tie.Need-returns-3
 returns-3 c = let a = c .before .before .before .before .before .before .before .before .before .before .before .args in sym (check-bad (rowsOf (a .table .now)) (longWith (a .received .now) (usedOf (a .set .now) (a .used)) (a .more)) (sourcesOf (a .received .now) (content (usedOf (a .set .now) (a .used)))) (a .rows .now) (a .place) (c .before .before .before .before .before .before .before .before .before .before .before .pre) (sym (c .before .before .before .before .before .before .too-long .ensures) ∙ c .before .before .before .before .before .if1 .left) (omega (arith, c .before .before .before .before .places .ensures)) (ap (λ (b : Bool). b || leb (length (rowsOf (a .table .now))) (a .place)) (rows-bad (c .before) ∙ c .if3 .taken)))

@@ -44,7 +44,7 @@ unfolding content
 returns c =
     let a = c .before .before .before .before .before .before .before .before .before .before .before .args in
     c .show-row .ensures
-    ∙ rw (c .before .before .before .form-at .ensures, c .before .before .row-at .ensures, c .before .part .ensures) (sym (show-good (a .table .now) (a .rows .now) (a .received .now) (usedOf (a .set .now) (a .used)) (a .place) (sym (c .before .before .before .before .before .before .check-place .ensures) ∙ ap placeCheckAs (c .before .before .before .before .enum-told .given .1))))
+    ∙ rw (c .before .before .before .form-at .ensures, c .before .before .row-at .ensures, c .before .part .ensures .0) (sym (show-good (a .table .now) (a .rows .now) (a .received .now) (usedOf (a .set .now) (a .used)) (a .place) (sym (c .before .before .before .before .before .before .check-place .ensures) ∙ ap placeCheckAs (c .before .before .before .before .enum-told .given .1))))
 
 returns-2 : tie.Need-returns-2
 returns-2 c = let a = c .before .before .before .before .before .before .before .before .args in sym (show-refused (a .table .now) (a .rows .now) (a .received .now) (usedOf (a .set .now) (a .used)) (a .place) (sym (c .before .before .before .check-place .ensures) ∙ ap placeCheckAs (c .before .k .given .1)))

@@ -27,7 +27,7 @@ does-fit-requires c κs = search needs
 
 -- whether it fits
 fit : (c : tie.After-does-fit) → c .does-fit .result ≡ fits (formAs (c .before .before .before .before .before .before .args .form)) (c .before .before .before .before .before .before .args .row .source) (octetsAt (sourcesOf (c .before .before .before .before .before .before .args .received .now) (c .before .before .before .before .before .before .args .set .now)) (valueOf (c .before .before .before .before .before .before .args .row)))
-fit c = c .does-fit .ensures ∙ ap (fits (formAs (c .before .before .before .before .before .before .args .form)) (c .before .before .before .before .before .before .args .row .source)) (c .before .value-octets .ensures)
+fit c = c .does-fit .ensures ∙ ap (fits (formAs (c .before .before .before .before .before .before .args .form)) (c .before .before .before .before .before .before .args .row .source)) (c .before .value-octets .ensures .0)
 
 fitting : (c : tie.Else2) → shownRow (formAs (c .before .before .before .before .before .before .before .args .form)) (sourcesOf (c .before .before .before .before .before .before .before .args .received .now) (c .before .before .before .before .before .before .before .args .set .now)) (valueOf (c .before .before .before .before .before .before .before .args .row)) (c .before .before .before .before .before .before .before .args .place) ≡ answer 0 (shownBy (formAs (c .before .before .before .before .before .before .before .args .form)) (sourcesOf (c .before .before .before .before .before .before .before .args .received .now) (c .before .before .before .before .before .before .before .args .set .now)) (valueOf (c .before .before .before .before .before .before .before .args .row)))
 fitting c = shown-fit (formAs (c .before .before .before .before .before .before .before .args .form)) (sourcesOf (c .before .before .before .before .before .before .before .args .received .now) (c .before .before .before .before .before .before .before .args .set .now)) (valueOf (c .before .before .before .before .before .before .before .args .row)) (c .before .before .before .before .before .before .before .args .place) (omega arith) (sym (fit (c .before)) ∙ not-false _ (c .if2 .left))
@@ -40,7 +40,7 @@ enum-told c = search needs
 
 returns-3 : tie.Need-returns-3
 unfolding shownBy
-returns-3 c = let z : length (c .before .before .before .before .before .value-octets .result .now) ≤ 0 = omega arith in sym (fitting (c .before .before .before) ∙ ap (λ (f : Form). answer 0 (shownBy (formAs f) (sourcesOf (c .before .before .before .before .before .before .before .before .before .before .args .received .now) (c .before .before .before .before .before .before .before .before .before .before .args .set .now)) (valueOf (c .before .before .before .before .before .before .before .before .before .before .args .row)))) (c .before .enum-told .given .1) ∙ rw (← c .before .before .before .before .before .value-octets .ensures, List·getD-eq-default (c .before .before .before .before .before .value-octets .result .now) 0 z))
+returns-3 c = let z : length (c .before .before .before .before .before .value-octets .result .now) ≤ 0 = omega arith in sym (fitting (c .before .before .before) ∙ ap (λ (f : Form). answer 0 (shownBy (formAs f) (sourcesOf (c .before .before .before .before .before .before .before .before .before .before .args .received .now) (c .before .before .before .before .before .before .before .before .before .before .args .set .now)) (valueOf (c .before .before .before .before .before .before .before .before .before .before .args .row)))) (c .before .enum-told .given .1) ∙ rw (← c .before .before .before .before .before .value-octets .ensures .0, List·getD-eq-default (c .before .before .before .before .before .value-octets .result .now) 0 z))
 
 shared-slice-read-t13 : tie.Need-shared-slice-read-t13
 shared-slice-read-t13 c = search needs
@@ -56,7 +56,7 @@ enum-told-4 c = search needs
 
 returns-4 : tie.Need-returns-4
 unfolding shownBy
-returns-4 c = sym (fitting (c .before .before .before .before) ∙ ap (λ (f : Form). answer 0 (shownBy (formAs f) (sourcesOf (c .before .before .before .before .before .before .before .before .before .before .before .args .received .now) (c .before .before .before .before .before .before .before .before .before .before .before .args .set .now)) (valueOf (c .before .before .before .before .before .before .before .before .before .before .before .args .row)))) (c .before .before .enum-told .given .1) ∙ rw (← c .before .before .before .before .before .before .value-octets .ensures))
+returns-4 c = sym (fitting (c .before .before .before .before) ∙ ap (λ (f : Form). answer 0 (shownBy (formAs f) (sourcesOf (c .before .before .before .before .before .before .before .before .before .before .before .args .received .now) (c .before .before .before .before .before .before .before .before .before .before .before .args .set .now)) (valueOf (c .before .before .before .before .before .before .before .before .before .before .before .args .row)))) (c .before .before .enum-told .given .1) ∙ rw (← c .before .before .before .before .before .before .value-octets .ensures .0))
 
 returns-5 : tie.Need-returns-5
 unfolding shownBy

@@ -27,10 +27,10 @@ form-of-requires : tie.Need-form-of-requires
 form-of-requires c κs = search needs
 
 ie-len-requires : tie.Need-ie-len-requires
-ie-len-requires c κs = let l = octets-short (c .before .before .before .before .before .before .before .before .before .before .args .received .now) (c .before .before .before .before .before .before .before .before .before .before .args .set .now) (c .before .before .before .before .before .before .before .before .before .before .pre .1) (c .before .before .before .before .before .before .before .before .before .before .pre .2) (valueOf (c .before .before .before .before .before .row-at .result)) in rw (c .before .value-octets .ensures) (omega arith)
+ie-len-requires c κs = let l = octets-short (c .before .before .before .before .before .before .before .before .before .before .args .received .now) (c .before .before .before .before .before .before .before .before .before .before .args .set .now) (c .before .before .before .before .before .before .before .before .before .before .pre .1) (c .before .before .before .before .before .before .before .before .before .before .pre .2) (valueOf (c .before .before .before .before .before .row-at .result)) in rw (c .before .value-octets .ensures .0) (omega arith)
 
 returns-2 : tie.Need-returns-2
-returns-2 c = length-there (c .before .before .before .before .before .before .before .before .before .before .before .args .table .now) (c .before .before .before .before .before .before .before .before .before .before .before .args .rows .now) (c .before .before .before .before .before .before .before .before .before .before .before .args .received .now) (c .before .before .before .before .before .before .before .before .before .before .before .args .set .now) (c .before .before .before .before .before .before .before .before .before .before .before .args .place) (c .before .before .before .before .before .before .row-at .result) (c .before .before .before .before .before .before .row-at .ensures) (c .before .before .before .before .if1 .left) (c .before .before .before .before .before .before .before .before .before .before .before .pre .1) (c .before .before .before .before .before .before .before .before .before .before .before .pre .2) (c .ie-len .ensures) (form-there (c .before .before .before .before .before .before .before .before .before .before .before .args .table .now) (c .before .before .before .before .before .before .before .before .before .before .before .args .place) (c .before .before .before .before .before .before .before .before .before .before .before .pre .0) (c .before .before .before .numbers-at .ensures) (c .before .form-of .ensures)) (c .before .before .value-octets .ensures)
+returns-2 c = length-there (c .before .before .before .before .before .before .before .before .before .before .before .args .table .now) (c .before .before .before .before .before .before .before .before .before .before .before .args .rows .now) (c .before .before .before .before .before .before .before .before .before .before .before .args .received .now) (c .before .before .before .before .before .before .before .before .before .before .before .args .set .now) (c .before .before .before .before .before .before .before .before .before .before .before .args .place) (c .before .before .before .before .before .before .row-at .result) (c .before .before .before .before .before .before .row-at .ensures) (c .before .before .before .before .if1 .left) (c .before .before .before .before .before .before .before .before .before .before .before .pre .1) (c .before .before .before .before .before .before .before .before .before .before .before .pre .2) (c .ie-len .ensures) (form-there (c .before .before .before .before .before .before .before .before .before .before .before .args .table .now) (c .before .before .before .before .before .before .before .before .before .before .before .args .place) (c .before .before .before .before .before .before .before .before .before .before .before .pre .0) (c .before .before .before .numbers-at .ensures) (c .before .form-of .ensures)) (c .before .before .value-octets .ensures .0)
 
 pub place-len-spec : {M : Type 1} → statement M
 place-len-spec =

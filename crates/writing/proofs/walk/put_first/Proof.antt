@@ -67,10 +67,10 @@ cast-put-ie c = let o : c .before .before .before .before .numbers-at .result .f
 
 -- the element, as the code has it
 piece : (c : tie.After-form-of) → addedPiece (filledOf (c .before .before .before .before .before .before .before .before .before .before .before .before .before .before .args .table .now) (c .before .before .before .before .before .before .before .before .before .before .before .before .before .before .args .rows .now) (c .before .before .before .before .before .before .before .before .before .before .before .before .before .before .args .received .now) (c .before .before .before .before .before .before .before .before .before .before .before .before .before .before .args .set .now)) (setOf (c .before .before .before .before .before .before .before .before .before .before .before .before .before .before .args .added)) (c .before .before .before .before .before .before .before .before .before .before .before .before .before .before .args .place) ≡ encoded (formAs (c .form-of .result)) (c .before .before .before .numbers-at .result .first) (c .before .before .value-octets .result .now)
-piece c = in-set (c .before .before .before .before .before .before) ∙ ap (elementAt (filledOf (c .before .before .before .before .before .before .before .before .before .before .before .before .before .before .args .table .now) (c .before .before .before .before .before .before .before .before .before .before .before .before .before .before .args .rows .now) (c .before .before .before .before .before .before .before .before .before .before .before .before .before .before .args .received .now) (c .before .before .before .before .before .before .before .before .before .before .before .before .before .before .args .set .now)) (c .before .before .before .before .before .before .before .before .before .before .before .before .before .before .args .place)) (sym (first-is (c .before .before .before))) ∙ piece-there (c .before .before .before .before .before .before .before .before .before .before .before .before .before .before .args .table .now) (c .before .before .before .before .before .before .before .before .before .before .before .before .before .before .args .rows .now) (c .before .before .before .before .before .before .before .before .before .before .before .before .before .before .args .received .now) (c .before .before .before .before .before .before .before .before .before .before .before .before .before .before .args .set .now) (c .before .before .before .before .before .before .before .before .before .before .before .before .before .before .args .place) (c .before .before .before .numbers-at .result .first) (c .before .before .before .before .before .before .row-at .result) (c .before .before .before .before .before .before .row-at .ensures) (c .before .before .before .before .if2 .left) (form-there (c .before .before .before .before .before .before .before .before .before .before .before .before .before .before .args .table .now) (c .before .before .before .before .before .before .before .before .before .before .before .before .before .before .args .place) (c .before .before .before .before .before .before .before .before .before .before .before .before .before .before .pre .0 .passes) (c .before .before .before .numbers-at .ensures) (c .form-of .ensures)) (c .before .before .value-octets .ensures)
+piece c = in-set (c .before .before .before .before .before .before) ∙ ap (elementAt (filledOf (c .before .before .before .before .before .before .before .before .before .before .before .before .before .before .args .table .now) (c .before .before .before .before .before .before .before .before .before .before .before .before .before .before .args .rows .now) (c .before .before .before .before .before .before .before .before .before .before .before .before .before .before .args .received .now) (c .before .before .before .before .before .before .before .before .before .before .before .before .before .before .args .set .now)) (c .before .before .before .before .before .before .before .before .before .before .before .before .before .before .args .place)) (sym (first-is (c .before .before .before))) ∙ piece-there (c .before .before .before .before .before .before .before .before .before .before .before .before .before .before .args .table .now) (c .before .before .before .before .before .before .before .before .before .before .before .before .before .before .args .rows .now) (c .before .before .before .before .before .before .before .before .before .before .before .before .before .before .args .received .now) (c .before .before .before .before .before .before .before .before .before .before .before .before .before .before .args .set .now) (c .before .before .before .before .before .before .before .before .before .before .before .before .before .before .args .place) (c .before .before .before .numbers-at .result .first) (c .before .before .before .before .before .before .row-at .result) (c .before .before .before .before .before .before .row-at .ensures) (c .before .before .before .before .if2 .left) (form-there (c .before .before .before .before .before .before .before .before .before .before .before .before .before .before .args .table .now) (c .before .before .before .before .before .before .before .before .before .before .before .before .before .before .args .place) (c .before .before .before .before .before .before .before .before .before .before .before .before .before .before .pre .0 .passes) (c .before .before .before .numbers-at .ensures) (c .form-of .ensures)) (c .before .before .value-octets .ensures .0)
 
 put-ie-requires : tie.Need-put-ie-requires
-put-ie-requires c κs = (writes-there (c .before .before .before .before .before .before .before .before .before .before .before .before .before .before .before .args .table .now) (c .before .before .before .before .before .before .before .before .before .before .before .before .before .before .before .args .rows .now) (c .before .before .before .before .before .before .before .before .before .before .before .before .before .before .before .args .received .now) (c .before .before .before .before .before .before .before .before .before .before .before .before .before .before .before .args .set .now) (c .before .before .before .before .before .before .before .before .before .before .before .before .before .before .before .args .place) (c .before .before .before .before .numbers-at .result .first) (c .before .before .before .before .before .before .before .row-at .result) (c .before .before .before .before .before .before .before .row-at .ensures) (c .before .before .before .before .before .if2 .left) (c .before .before .before .before .before .before .before .before .before .before .before .before .before .before .before .pre .0) (c .before .before .before .before .before .before .before .before .before .before .before .before .before .before .before .pre .1) (bears (c .before .before .before .before)) (form-there (c .before .before .before .before .before .before .before .before .before .before .before .before .before .before .before .args .table .now) (c .before .before .before .before .before .before .before .before .before .before .before .before .before .before .before .args .place) (c .before .before .before .before .before .before .before .before .before .before .before .before .before .before .before .pre .0 .passes) (c .before .before .before .before .numbers-at .ensures) (c .before .form-of .ensures)) (c .before .before .before .value-octets .ensures), simp (length-take, length-drop) (omega (arith, c .before .before .before .before .before .before .before .before .before .before .before .before .before .before .before .pre .2, ap length (piece (c .before)))))
+put-ie-requires c κs = (writes-there (c .before .before .before .before .before .before .before .before .before .before .before .before .before .before .before .args .table .now) (c .before .before .before .before .before .before .before .before .before .before .before .before .before .before .before .args .rows .now) (c .before .before .before .before .before .before .before .before .before .before .before .before .before .before .before .args .received .now) (c .before .before .before .before .before .before .before .before .before .before .before .before .before .before .before .args .set .now) (c .before .before .before .before .before .before .before .before .before .before .before .before .before .before .before .args .place) (c .before .before .before .before .numbers-at .result .first) (c .before .before .before .before .before .before .before .row-at .result) (c .before .before .before .before .before .before .before .row-at .ensures) (c .before .before .before .before .before .if2 .left) (c .before .before .before .before .before .before .before .before .before .before .before .before .before .before .before .pre .0) (c .before .before .before .before .before .before .before .before .before .before .before .before .before .before .before .pre .1) (bears (c .before .before .before .before)) (form-there (c .before .before .before .before .before .before .before .before .before .before .before .before .before .before .before .args .table .now) (c .before .before .before .before .before .before .before .before .before .before .before .before .before .before .before .args .place) (c .before .before .before .before .before .before .before .before .before .before .before .before .before .before .before .pre .0 .passes) (c .before .before .before .before .numbers-at .ensures) (c .before .form-of .ensures)) (c .before .before .before .value-octets .ensures .0), simp (length-take, length-drop) (omega (arith, c .before .before .before .before .before .before .before .before .before .before .before .before .before .before .before .pre .2, ap length (piece (c .before)))))
 
 add-result : tie.Need-add-result
 add-result c = omega (arith, c .before .before .before .before .before .before .before .before .before .before .before .before .before .before .before .before .before .before .good, c .before .before .before .before .before .before .before .before .before .before .before .before .before .before .before .before .before .before .pre .2, c .before .before .put-ie .ensures .takes, ap length (piece (c .before .before .before .before)))
