@@ -21,9 +21,11 @@
  * Below, each call lists its refusals in the order in which they are checked: the first that is true is the answer.
  *
  * A table of optional elements has nine numbers a row: how many IEIs (1 to 4), four IEIs, the form (0 half octet, 1 fixed,
- * 2 TLV, 3 TLV-E), the value octets of a fixed form, the least whole length, and the set of kinds (bit k for kind k).
+ * 2 TLV, 3 TLV-E), the value octets of a fixed form, the least whole length, and the set of kinds.
  * A table of mandatory rows has four: the form (0 low half, 1 high half, 2 fixed, 3 LV, 4 LV-E), the octets of a fixed form,
  * the least whole length, and the set of kinds.
+ * Bit k of a set allows kind k. The kind of a half octet, also of a mandatory one, is its four bits, so that its set is over the
+ * values 0 to 15; that of another form is the low three bits of the value's first octet. An empty value has none and is allowed.
  *
  * tlve_start is the start number of the long form: an unknown element whose first octet is from there to 0x7f has two length
  * octets. It is 0x70 for 5GS.
@@ -46,15 +48,15 @@ extern "C" {
 uint32_t nas_generic_ie_length(const uint8_t *octets, size_t octets_len, uint8_t tlve_start, uint64_t values[5]);
 
 /* Checks a table of optional elements: at most 128 rows, the last one whole; in each row 1 to 4 IEIs, a form of 0 to 3, of a
- * fixed form at most 255 value octets, a least whole length of at most 65,538, a set of 1 to 255; IEIs of at most 0x7f, or, in a
- * row of half octets, of 0x80 to 0xf0 with zero low four bits; no IEI twice in the table. IEIs beyond the count, and the size
- * of another form than fixed, are not looked at.
+ * fixed form at most 255 value octets, a least whole length of at most 65,538, a set of 1 to 255, of a half octet 1 to 65,535;
+ * IEIs of at most 0x7f, or, in a row of half octets, of 0x80 to 0xf0 with zero low four bits; no IEI twice in the table. IEIs
+ * beyond the count, and the size of another form than fixed, are not looked at.
  * 0: it passes, no value. 4: the first bad row. */
 uint32_t nas_check_table(const uint32_t *table, size_t table_len, uint64_t values[5]);
 
 /* Checks a table of mandatory rows: at most 32 rows, the last one whole; in each row a form of 0 to 4, of a fixed form 1 to 255
- * octets, a least whole length of at most 65,537, which of a half is 0, a set of 1 to 255; right behind each low half a high
- * half, and no high half elsewhere.
+ * octets, a least whole length of at most 65,537, which of a half is 0, a set of 1 to 255, of a half 1 to 65,535; right behind
+ * each low half a high half, and no high half elsewhere.
  * 0: it passes, no value. 4: the first bad row. */
 uint32_t nas_check_mandatory_table(const uint32_t *table, size_t table_len, uint64_t values[5]);
 

@@ -1,9 +1,9 @@
-//! The examples of document 01 under table P: what the oracle itself has to say of them.
+//! The examples of document 01 under table P, and those of document 02: what the oracle itself has to say of them.
 
 /// Part, option, order log, kept log.
 pub type Example = (&'static [u8], bool, &'static [u8], &'static [u8]);
 
-pub const READ: [Example; 12] = [
+pub const READ: [Example; 15] = [
     (&[], false, &[], &[]),
     (&[0xc1, 0x10, 1, 0xaa], false, &[], &[]),
     (&[0x10, 0, 0x10, 1, 0xaa], false, &[2, 3], &[2, 0x10, 0, 3, 0x10, 1, 0xaa]),
@@ -16,6 +16,9 @@ pub const READ: [Example; 12] = [
     (&[0x6f, 0], false, &[1], &[2, 0x6f, 0]),
     (&[0x70, 0, 0], false, &[1], &[3, 0x70, 0, 0]),
     (&[5, 1, 0xaa], false, &[1], &[3, 5, 1, 0xaa]),
+    (&[0xc2], false, &[], &[]),
+    (&[0xc9], false, &[2], &[1, 0xc9]),
+    (&[0x2f, 1, 0x0a], false, &[], &[]),
 ];
 
 /// Part, and the four values of refusal 1, the last of them document 02's.

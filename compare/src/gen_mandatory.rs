@@ -16,11 +16,18 @@ fn length(random: &mut Random, field: usize, least: usize) -> usize {
     }
 }
 
-/// A first octet: mostly one that the value rule takes, in both its halves.
+/// A first octet: mostly one that the value rule takes.
 fn first(random: &mut Random, set: u32) -> u8 {
     let kinds: Vec<u8> = (0..8).filter(|kind| set >> kind & 1 == 1).collect();
     let kind = random.pick(&kinds);
     if random.once_in(6) { random.octet() } else { kind | random.octet() & 0xf8 }
+}
+
+/// A half: mostly one that the value rule takes.
+fn half(random: &mut Random, set: u32) -> u8 {
+    let halves: Vec<u8> = (0..16).filter(|half| set >> half & 1 == 1).collect();
+    let half = random.pick(&halves);
+    if random.once_in(6) { random.octet() & 0x0f } else { half }
 }
 
 /// A part of whole rows, and now and then octets behind them.
@@ -31,11 +38,11 @@ pub fn part(random: &mut Random, rows: &[MandatoryRow]) -> Vec<u8> {
         let at = part.len();
         let field = match row.form {
             MandatoryForm::LowHalf => {
-                low = first(random, row.set) & 0x0f;
+                low = half(random, row.set);
                 continue;
             }
             MandatoryForm::HighHalf => {
-                part.push(first(random, row.set) << 4 | low);
+                part.push(half(random, row.set) << 4 | low);
                 continue;
             }
             MandatoryForm::Fixed(size) => {
@@ -100,7 +107,7 @@ pub fn places(random: &mut Random, rows: &[MandatoryRow]) -> Places {
 pub fn short_then_long(random: &mut Random) -> Vec<u32> {
     let mut table = match random.below(3) {
         0 => vec![],
-        1 => vec![0, 0, 0, 255, 1, 0, 0, 255],
+        1 => vec![0, 0, 0, 65_535, 1, 0, 0, 65_535],
         _ => vec![2, 1, 0, 255],
     };
     let code = random.pick(&[3, 4, 4]);

@@ -32,7 +32,7 @@ pub fn optional(random: &mut Random) -> Vec<u32> {
         let aliases = if random.once_in(3) { random.below(4).min(spare) } else { 0 };
         let ieis: Vec<u32> = pool.drain(pool.len() - 1 - aliases..).collect();
         let code = if half { 0 } else { 1 + random.below(3) as u32 };
-        let mut row = numbers(&ieis, code, 0, least(random), set(random));
+        let mut row = numbers(&ieis, code, 0, least(random), set(random, half));
         // What a row does not use is ignored.
         for unused in &mut row[1 + ieis.len()..5] {
             *unused = random.pick(&[0, ieis[0], 0x80, 255, 256, u32::MAX]);
@@ -53,11 +53,16 @@ fn least(random: &mut Random) -> u32 {
     }
 }
 
-fn set(random: &mut Random) -> u32 {
-    match random.below(4) {
-        0 => 255,
-        1 => random.pick(&[1, 2, 7, 0x80, 0xaa, 0x7f, 0xfe]),
-        _ => 1 + random.below(255) as u32,
+/// A set of eight values, or of a half octet's sixteen: now and then eight values twice, as three bits would judge it.
+fn set(random: &mut Random, half: bool) -> u32 {
+    match (random.below(4), half) {
+        (0, false) => 255,
+        (1, false) => random.pick(&[1, 2, 7, 0x80, 0xaa, 0x7f, 0xfe]),
+        (_, false) => 1 + random.below(255) as u32,
+        (0, true) => 65_535,
+        (1, true) => random.pick(&[1, 7, 0x80, 0xff, 0x100, 0x8000, 0xff00, 0x7fff, 0xfffe, 0xaaaa]),
+        (2, true) => 257 * set(random, false),
+        _ => 1 + random.below(65_535) as u32,
     }
 }
 
@@ -66,15 +71,15 @@ pub fn mandatory(random: &mut Random) -> Vec<u32> {
     let rows = if random.once_in(6) { 28 + random.below(5) } else { random.below(8) };
     let mut table = Vec::new();
     while table.len() < MANDATORY_WIDTH * rows {
-        let set = if random.once_in(2) { 255 } else { 1 + random.below(255) as u32 };
         let unused = random.pick(&[0, 1, 255, 256, u32::MAX]);
         let least = random.pick(&[0, 0, 0, 1, 1, 2, 2, 3, 3, 6, 256, 65_536, 65_537]);
         if random.once_in(3) && table.len() + 2 * MANDATORY_WIDTH <= MANDATORY_WIDTH * rows {
-            table.extend([0, unused, 0, set, 1, unused, 0, set]);
+            let [low, high] = [set(random, true), set(random, true)];
+            table.extend([0, unused, 0, low, 1, unused, 0, high]);
         } else {
             let (code, size) =
                 random.pick(&[(2, 1), (2, 2), (2, 3), (2, 255), (3, unused), (3, unused), (4, unused), (4, unused)]);
-            table.extend([code, size, least, set]);
+            table.extend([code, size, least, set(random, false)]);
         }
     }
     table
@@ -120,7 +125,7 @@ pub fn damaged(random: &mut Random, mut table: Vec<u32>, width: usize) -> Vec<u3
 }
 
 /// Numbers at the edges of the ranges of a row.
-const EDGES: [u32; 22] = [
+const EDGES: [u32; 24] = [
     0,
     1,
     2,
@@ -137,6 +142,8 @@ const EDGES: [u32; 22] = [
     255,
     256,
     257,
+    65_534,
+    65_535,
     65_536,
     65_537,
     65_538,
@@ -151,7 +158,7 @@ pub fn too_many(random: &mut Random) -> (Vec<u32>, Vec<u32>) {
     let mut iei = 0;
     for _ in 0..127 + random.below(4) {
         let half = iei >= 0x80;
-        optional.extend(numbers(&[iei], if half { 0 } else { 2 }, 0, 0, 255));
+        optional.extend(numbers(&[iei], if half { 0 } else { 2 }, 0, 0, if half { 65_535 } else { 255 }));
         iei += if half { 16 } else { 1 };
     }
     let mut mandatory = Vec::new();
@@ -160,7 +167,7 @@ pub fn too_many(random: &mut Random) -> (Vec<u32>, Vec<u32>) {
     }
     if random.once_in(2) {
         let at = mandatory.len() - 2 * MANDATORY_WIDTH;
-        mandatory[at..].copy_from_slice(&[0, 0, 0, 255, 1, 0, 0, 255]);
+        mandatory[at..].copy_from_slice(&[0, 0, 0, 65_535, 1, 0, 0, 65_535]);
     }
     (optional, mandatory)
 }

@@ -34,7 +34,7 @@ fn good_row(row: &[u32], met: &mut [bool; 256]) -> bool {
         && code <= 3
         && (code != 1 || size <= 255)
         && least <= 65_538
-        && (1..=255).contains(&set);
+        && (1..=greatest_set(code == 0)).contains(&set);
     ranges
         && [a, b, c, d][..count as usize].iter().all(|&iei| {
             let fits = match code {
@@ -43,6 +43,11 @@ fn good_row(row: &[u32], met: &mut [bool; 256]) -> bool {
             };
             fits && !std::mem::replace(&mut met[iei as usize], true)
         })
+}
+
+/// The greatest set, of a half octet or of another form (document 02, item 5).
+fn greatest_set(half: bool) -> u32 {
+    if half { 65_535 } else { 255 }
 }
 
 /// The first bad row of a mandatory table.
@@ -63,7 +68,7 @@ pub fn first_bad_mandatory(table: &[u32]) -> Option<usize> {
             3 | 4 => least <= 65_537,
             _ => false,
         };
-        k >= 32 || alone || !range || !(1..=255).contains(&set)
+        k >= 32 || alone || !range || !(1..=greatest_set(form <= 1)).contains(&set)
     })
 }
 
@@ -91,11 +96,12 @@ fn header(form: Form) -> usize {
     }
 }
 
-/// The value rule: an empty value is receivable, another when the kind that its first octet ends in is in the set. The low
-/// three bits of a half octet are those of its whole octet.
-pub fn receivable(set: u32, value: &[u8]) -> bool {
+/// The value rule: an empty value is receivable, another when the kind that its first octet ends in is in the set. A kind
+/// is three bits, and of a half octet four, which are the low ones of its whole octet.
+pub fn receivable(half: bool, set: u32, value: &[u8]) -> bool {
     match value {
         [] => true,
+        [first, ..] if half => set & (1 << (first % 16)) != 0,
         [first, ..] => set & (1 << (first % 8)) != 0,
     }
 }
@@ -117,7 +123,8 @@ pub fn missing(octets: &[u8], start: u8) -> usize {
         return 1;
     };
     let field = if start <= first { 2 } else { 1 };
-    let stated = rest.get(..field).map(|field| field.iter().fold(0, |stated, &octet| 256 * stated + usize::from(octet)));
+    let stated =
+        rest.get(..field).map(|field| field.iter().fold(0, |stated, &octet| 256 * stated + usize::from(octet)));
     field + stated.unwrap_or(0) - rest.len()
 }
 
@@ -237,8 +244,10 @@ impl Model {
                 let place = usize::from(place);
                 let row = &self.rows[place];
                 let length = whole(row.form, rest);
-                let good = length
-                    .is_some_and(|length| length >= row.least && receivable(row.set, &rest[header(row.form)..length]));
+                let half = row.form == Form::Half;
+                let good = length.is_some_and(|length| {
+                    length >= row.least && receivable(half, row.set, &rest[header(row.form)..length])
+                });
                 let late = place < state.highest;
                 let verdict = if state.met[place] {
                     Verdict::Repeated

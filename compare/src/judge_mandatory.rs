@@ -38,7 +38,8 @@ pub fn read_rows(rows: &[MandatoryRow], part: &[u8], lenient: bool) -> RowsRead 
         let Some((start, length, took, judged)) = found(row.form, left) else {
             return RowsRead { refused: Some((if left.is_empty() { 6 } else { 7 }, k)), ..done };
         };
-        let fault = match (took < row.least, receivable(row.set, &judged)) {
+        let half = matches!(row.form, MandatoryForm::LowHalf | MandatoryForm::HighHalf);
+        let fault = match (took < row.least, receivable(half, row.set, &judged)) {
             (true, _) => Some(8),
             (false, false) => Some(9),
             (false, true) => None,

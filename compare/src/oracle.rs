@@ -56,9 +56,14 @@ impl Logs {
     }
 }
 
-/// The value rule of document 01: an empty value, or bit k of the set for the low three bits k of the first octet.
-fn receivable(row: &Row, value: &[u8]) -> bool {
-    value.first().is_none_or(|first| row.set >> (first & 7) & 1 == 1)
+/// The value rule: an empty value, or bit k of the set for the low three bits k of the first octet.
+pub(crate) fn receivable(set: u32, first: Option<u8>) -> bool {
+    first.is_none_or(|first| set >> (first & 7) & 1 == 1)
+}
+
+/// The set of a half octet's sixteen values for a rule of three bits: its eight that have the value's fourth bit.
+pub(crate) fn half_set(set: u32, half: u8) -> u32 {
+    if half & 8 == 0 { set & 0xff } else { set >> 8 }
 }
 
 /// `decode_optional_ies` over the rows of a table: place rows into `places`, the rest into `logs`.
@@ -93,7 +98,8 @@ pub fn read_into(
             }
         };
         let first = !repeated && (!out_of_sequence || option);
-        let kept = first && receivable(row, value) && before - probe.len() >= row.least;
+        let set = if row.form == Form::Half { half_set(row.set, value[0]) } else { row.set };
+        let kept = first && receivable(set, value.first().copied()) && before - probe.len() >= row.least;
         if kept {
             let start = part.len() - probe.len() - value.len();
             places[PLACE * at..][..PLACE].copy_from_slice(&[1, start as u32, value.len() as u32]);

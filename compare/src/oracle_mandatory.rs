@@ -3,6 +3,7 @@
 
 use crate::common::{self, IeFault, NasError, Reader, Reading, nas_message};
 use crate::judge_mandatory::{FilledRows, RowsRead};
+use crate::oracle::{half_set, receivable};
 use crate::oracle_writing::{Framed, Half};
 use crate::rows::{MandatoryForm, MandatoryRow, PLACE};
 
@@ -42,6 +43,14 @@ fn decode(form: MandatoryForm, buffer: &mut &[u8], part: usize) -> common::Resul
     let start = at(buffer.len());
     let value = buffer.take(length)?;
     Ok(Value { start, length, first: value.first().copied() })
+}
+
+/// The set by which a value is judged.
+fn set_for(row: &MandatoryRow, value: &Value) -> u32 {
+    match (row.form, value.first) {
+        (MandatoryForm::LowHalf | MandatoryForm::HighHalf, Some(half)) => half_set(row.set, half),
+        _ => row.set,
+    }
 }
 
 /// Document 01's number of a fault, and its row.
@@ -90,7 +99,7 @@ pub fn read_rows_into(
             field,
             row.least,
             |buffer| decode(row.form, buffer, part.len()),
-            |value: &Value| value.first.is_none_or(|first| row.set >> (first & 7) & 1 == 1),
+            |value: &Value| receivable(set_for(row, value), value.first),
             |_| None,
             &mut reading,
         );

@@ -172,7 +172,8 @@ pub fn numbered_or_exit() -> Rc<Tables> {
     }
 }
 
-/// The numbers of an optional row of the list: message, part, row, IEI, name, form, least, greatest, set.
+/// The numbers of an optional row of the list: message, part, row, IEI, name, form, least, greatest, set of eight, and the
+/// set that its form has, of sixteen for half octets.
 fn optional(column: &[&str]) -> Option<[u32; WIDTH]> {
     let iei = u32::from_str_radix(column.get(3)?, 16).ok()?;
     let (code, size) = match *column.get(5)? {
@@ -181,7 +182,7 @@ fn optional(column: &[&str]) -> Option<[u32; WIDTH]> {
         "tlv-e" => (3, 0),
         fixed => (1, fixed.strip_prefix("fixed-")?.parse().ok()?),
     };
-    Some(numbers(&[iei], code, size, column.get(6)?.parse().ok()?, column.get(8)?.parse().ok()?))
+    Some(numbers(&[iei], code, size, column.get(6)?.parse().ok()?, column.get(9)?.parse().ok()?))
 }
 
 /// The numbers of a mandatory row of the list.
@@ -193,5 +194,5 @@ fn mandatory(column: &[&str]) -> Option<[u32; MANDATORY_WIDTH]> {
         "lv-e" => (4, 0),
         fixed => (2, fixed.strip_prefix("fixed-")?.parse().ok()?),
     };
-    Some([code, size, column.get(6)?.parse().ok()?, column.get(8)?.parse().ok()?])
+    Some([code, size, column.get(6)?.parse().ok()?, column.get(9)?.parse().ok()?])
 }

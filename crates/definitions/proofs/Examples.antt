@@ -2,15 +2,17 @@
 -- both sides compute to the same lists.
 use Prim.Native.Nat.{ℕ}
 use mathlib.Core.Path.{_≡_, refl}
-use mathlib.Core.List.{List, [], _∷_, map}
+use mathlib.Core.List.{List, [], _∷_, _++_, map}
 use mathlib.Core.Bool.{Bool, true, false}
+use mathlib.Core.Option.{none, some}
 use lib.ListN.{replicate, getD, length}
 use Rattle.definitions.specs.Basic.{Answer, answer, Used, isNone, among, concat, refusal, over, overAt, content, tooLong, bit, receivable}
 use Rattle.definitions.specs.Octets.{run, number, numberAt}
 use Rattle.definitions.specs.Rows.{rowOf, rowsF, rowsOf, ieis, formOf, form, goodIei, allGood, fresh, goodRow, firstBadFrom, firstBad, ieiOf, placeFrom, placeOf, rowAt, firstIei}
-use Rattle.definitions.specs.Tables.{row, tableP, startOf}
+use Rattle.definitions.specs.Tables.{row, plain, tableP, startOf}
 use Rattle.definitions.specs.Length.{header, lengthBy, stated, within, whole, unknownForm, unknownLength, lacking, missing, required}
 use Rattle.definitions.specs.Elements.{ieiAt, including, meet, takenBy, taken, judged, octetsOf, known, stranger, strangerStep, placeStep, step, before, stepThen, partedF, parted, elementsOf, isAccepted, isAt}
+use Rattle.definitions.specs.Mandatory.{mandatoryRowsF, mandatoryRowsOf, mandatoryFormOf, mandatoryForm, isHalf, nextIs, goodMandatory, firstBadMandatoryFrom, firstBadMandatory, foundBy, faultOf, stopped, noted, rowed, mandatoryReading}
 use Rattle.definitions.specs.Logs.{lebF, leb128, keptEntry, keptOf, continued, countF, allowed, countAt, put, keptThen, keptListF, keptList, orEmpty, placedOf, orderEntry, entriesOf, plainFrom, orderOf, orderListF, orderList}
 use Rattle.definitions.specs.Reading.{Read, Lent, received, placeRow, placeRowsFrom, placeRows, cutOf, readingChecks, readElements, reading}
 use Rattle.definitions.specs.Values.{Edited, valueAt, present, sourceOf, octetsAt, goodValue, firstFrom, badRows, fits, unfitAt, valuesTooLong, placeChecks, setting}
@@ -93,6 +95,40 @@ lacks =
 pub lacks-hold : map (missing 0x78) lacks ≡ 1 ∷ 1 ∷ 1 ∷ 255 ∷ 2 ∷ 1 ∷ 1 ∷ 65535 ∷ 1 ∷ []
 unfolding lacks run number numberAt header lengthBy stated unknownForm lacking missing
 lacks-hold = refl
+
+-- ---- half octets have four bits
+
+-- the set 7 of place 0 has the values 0, 1 and 2, so that c2 is accepted and c9 malformed; that of place 3 still has each value
+-- whose low three bits are 0, 1 or 2
+unfoldable pub halves : List Example
+halves =
+    example (0xc2 ∷ []) false (answer 0 (0 ∷ 0 ∷ [])) ([]) ([])
+    ∷ example (0xc9 ∷ []) false (answer 0 (2 ∷ 1 ∷ [])) (0x02 ∷ []) (0x01 ∷ 0xc9 ∷ [])
+    ∷ example (0x2f ∷ 0x01 ∷ 0x0a ∷ []) false (answer 0 (0 ∷ 0 ∷ [])) ([]) ([])
+    ∷ []
+
+pub halves-hold : map read halves ≡ map leaves halves
+unfolding halves read leaves concat refusal over bit receivable among run number numberAt rowOf rowsF rowsOf ieis formOf form goodIei allGood fresh goodRow firstBadFrom firstBad ieiOf placeFrom placeOf rowAt firstIei row tableP header lengthBy stated within whole unknownForm unknownLength lacking missing required ieiAt including meet takenBy taken judged octetsOf known stranger strangerStep placeStep step before stepThen partedF parted elementsOf isAccepted isAt received placeRow placeRowsFrom placeRows cutOf readingChecks readElements reading lebF leb128 keptEntry keptOf placedOf orderEntry entriesOf plainFrom orderOf
+halves-hold = refl
+
+-- a low half of any value and a high half of 0 to 11: 1c is read, and of c1 the high half is refused with 9
+abbrev pair : List ℕ
+pair = plain 0 0 0 65535 ++ plain 1 0 0 4095
+
+pub high-halves-hold : map (λ x. mandatoryReading pair false (x ∷ []) (replicate 6 9) .said) (0x1c ∷ 0xc1 ∷ []) ≡ answer 0 (1 ∷ []) ∷ answer 9 (1 ∷ []) ∷ []
+unfolding plain refusal over bit receivable mandatoryRowsF mandatoryRowsOf mandatoryFormOf mandatoryForm isHalf nextIs goodMandatory firstBadMandatoryFrom firstBadMandatory foundBy faultOf stopped noted rowed mandatoryReading
+high-halves-hold = refl
+
+-- the greatest sets: a half octet's 65,535, any other form's 255
+pub greatest-hold : map (λ r. firstBad (rowsOf r)) (row 0xc0 0 0 1 65535 ∷ row 0xc0 0 0 1 65536 ∷ row 0x10 2 0 3 255 ∷ row 0x10 2 0 3 256 ∷ [])
+    ≡ none ∷ some 0 ∷ none ∷ some 0 ∷ []
+unfolding row among rowOf rowsF rowsOf ieis goodIei allGood fresh goodRow firstBadFrom firstBad
+greatest-hold = refl
+
+pub greatest-mandatory-hold : map (λ (r : List ℕ). firstBadMandatory (mandatoryRowsOf r)) (pair ∷ (plain 0 0 0 1 ++ plain 1 0 0 65536) ∷ plain 3 0 0 255 ∷ plain 3 0 0 256 ∷ [])
+    ≡ none ∷ some 1 ∷ none ∷ some 0 ∷ []
+unfolding plain mandatoryRowsF mandatoryRowsOf isHalf nextIs goodMandatory firstBadMandatoryFrom firstBadMandatory
+greatest-mandatory-hold = refl
 
 -- ---- writing
 

@@ -12,7 +12,7 @@ use lib.ListN.{length, getD, take, drop}
 use lib.Dec.{ltb, eqb}
 use Rattle.definitions.specs.Basic.{pick, receivable}
 use Rattle.definitions.specs.Octets.{numberAt}
-use Rattle.definitions.specs.Mandatory.{MandatoryRow, MandatoryForm, lowHalf, highHalf, fixedV, lv, lv-e, mandatoryForm, goodMandatory, mostMandatory, firstBadMandatoryFrom, firstBadMandatory, missing, truncated, value, behind, counted, foundBy, faultOf, stopped, noted, rowed}
+use Rattle.definitions.specs.Mandatory.{MandatoryRow, MandatoryForm, lowHalf, highHalf, fixedV, lv, lv-e, mandatoryForm, isHalf, goodMandatory, mostMandatory, firstBadMandatoryFrom, firstBadMandatory, missing, truncated, value, behind, counted, foundBy, faultOf, stopped, noted, rowed}
 use Rattle.definitions.proofs.Octets.{number-one}
 use Rattle.definitions.proofs.RowLaws.{both}
 
@@ -79,7 +79,7 @@ found-lv-e (x ∷ s) h = refl
 -- a fault is 8 or 9
 pub by-fault : (P : Option ℕ → Type 0) (r : MandatoryRow) (took : ℕ) (v : List ℕ) → P none → P (some 8) → P (some 9) → P (faultOf r took v)
 unfolding faultOf
-by-fault P r took v a b d = go (ltb took (r .least)) (receivable (r .kinds) v)
+by-fault P r took v a b d = go (ltb took (r .least)) (receivable (isHalf r) (r .kinds) v)
   where
     go : (x y : Bool) → P (pick x (some 8) (pick y none (some 9)))
     go true y = b

@@ -9,8 +9,8 @@ use mathlib.Core.Bool.{Bool, true, false, _&&_, _||_, not, and-eq-true-iff, fals
 use lib.ListN.{length}
 use lib.Dec.{leb, ltb, eqb, eqb·suc-zero}
 use borrow.Author.Tests.{eqb-true, leb-true}
-use Rattle.definitions.specs.Basic.{pick, among}
-use Rattle.definitions.specs.Rows.{Row, Form, half, fixed, tlv, tlv-e, form, formOf, ieis, goodIei, allGood, fresh, goodRow, mostPlaces, firstBadFrom, firstBad, placeFrom, placeOf, rowAt}
+use Rattle.definitions.specs.Basic.{pick, among, mostKinds}
+use Rattle.definitions.specs.Rows.{Row, Form, half, fixed, tlv, tlv-e, form, formOf, ofHalf, ieis, goodIei, allGood, fresh, goodRow, mostPlaces, firstBadFrom, firstBad, placeFrom, placeOf, rowAt}
 
 -- an IEI that stands in a row of a form
 abbrev pub Bears : Form → ℕ → Type 0
@@ -48,7 +48,7 @@ row-good : (used : List ℕ) (r : Row) → goodRow used r ≡ true → allGood (
 unfolding goodRow
 row-good used r h =
     eighth (leb 1 (r .count)) (leb (r .count) 4) (leb (r .code) 3) (not (eqb (r .code) 1) || leb (r .size) 255) (leb (r .least) 65538) (leb 1 (r .kinds))
-    (leb (r .kinds) 255) (allGood (eqb (r .code) 0) (ieis r)) (fresh used (ieis r)) h
+    (leb (r .kinds) (mostKinds (ofHalf r))) (allGood (eqb (r .code) 0) (ieis r)) (fresh used (ieis r)) h
   where
     eighth : (a b c d e f g h i : Bool) → (a && (b && (c && (d && (e && (f && (g && (h && i)))))))) ≡ true → h ≡ true
     eighth false b c d e f g h i q = cc
@@ -94,7 +94,7 @@ row-passes : (used : List ℕ) (r : Row) → goodRow used r ≡ true → Passes 
 unfolding goodRow form
 row-passes used r h =
     by (leb 1 (r .count)) (leb (r .count) 4) (leb (r .code) 3) (not (eqb (r .code) 1) || leb (r .size) 255) (leb (r .least) 65538) (leb 1 (r .kinds))
-    (leb (r .kinds) 255 && (allGood (eqb (r .code) 0) (ieis r) && fresh used (ieis r))) refl refl h
+    (leb (r .kinds) (mostKinds (ofHalf r)) && (allGood (eqb (r .code) 0) (ieis r) && fresh used (ieis r))) refl refl h
   where
     by : (a b c d e f g : Bool) → leb 1 (r .count) ≡ a → leb 1 (r .kinds) ≡ f → (a && (b && (c && (d && (e && (f && g)))))) ≡ true → Passes r
     by false b c d e f g p q x = absurd (false≢true x)

@@ -86,13 +86,22 @@ mostLog = 131070
 unfoldable pub tooLong : ℕ → Used → Bool
 tooLong most u = ltb (length (u .buffer)) (u .used) || ltb most (u .used)
 
--- ---- the value rule ("Rows of a table")
+-- ---- the value rule ("Rows of a table"; document 02, item 5)
 
 -- bit k of a set
 unfoldable pub bit : ℕ → ℕ → Bool
 bit k set = eqb (set / 2 ^ k % 2) 1
 
--- an empty value is receivable; another exactly when the low three bits of its first octet are in the set
-unfoldable pub receivable : ℕ → List ℕ → Bool
-receivable set [] = true
-receivable set (x ∷ xs) = bit (x % 8) set
+-- how many values a set is over: sixteen of a half octet, eight of any other form
+abbrev pub breadth : Bool → ℕ
+breadth h = pick h 16 8
+
+-- the greatest set: it has all of them
+abbrev pub mostKinds : Bool → ℕ
+mostKinds h = pick h 65535 255
+
+-- by whether the form is a half octet: an empty value is receivable; another exactly when the low four bits of its first octet, or
+-- the low three of another form, are in the set
+unfoldable pub receivable : Bool → ℕ → List ℕ → Bool
+receivable h set [] = true
+receivable h set (x ∷ xs) = bit (x % breadth h) set

@@ -6,7 +6,7 @@ use mathlib.Core.Option.{Option, none, some}
 use lib.ListN.{length, getD, take, drop}
 use lib.Dec.{ltb, leb, eqb}
 use Rattle.definitions.specs.Basic.{pick, bit, receivable}
-use Rattle.definitions.specs.Rows.{Row, form, ieiOf, placeOf, rowAt}
+use Rattle.definitions.specs.Rows.{Row, form, ofHalf, ieiOf, placeOf, rowAt}
 use Rattle.definitions.specs.Length.{header, whole, unknownLength, missing, required}
 
 pub data Verdict : Type 0 where
@@ -56,7 +56,7 @@ meet k m = record { places = including k (m .places); highest = max k (m .highes
 
 -- whether a complete element is one that its row takes: at least the least length, and receivable
 unfoldable pub takenBy : Row → List ℕ → Bool
-takenBy r e = leb (r .least) (length e) && receivable (r .kinds) (drop (header (form r)) e)
+takenBy r e = leb (r .least) (length e) && receivable (ofHalf r) (r .kinds) (drop (header (form r)) e)
 
 -- the same of the element at the front of s, by its whole length; one that is cut short is not taken
 unfoldable pub taken : Row → Option ℕ → List ℕ → Bool

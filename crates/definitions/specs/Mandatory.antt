@@ -6,7 +6,7 @@ use mathlib.Core.Bool.{Bool, true, false, _&&_, _||_, not}
 use mathlib.Core.Option.{Option, none, some}
 use lib.ListN.{length, getD, take, drop}
 use lib.Dec.{ltb, leb, eqb}
-use Rattle.definitions.specs.Basic.{pick, isNone, receivable, Answer, answer, refusal, refuse, refuseAt, unless, Used, content, mostOctets, over}
+use Rattle.definitions.specs.Basic.{pick, isNone, mostKinds, receivable, Answer, answer, refusal, refuse, refuseAt, unless, Used, content, mostOctets, over}
 use Rattle.definitions.specs.Octets.{numberAt}
 use Rattle.definitions.specs.Tables.{mandatoryTableOf}
 use Rattle.definitions.specs.Values.{Octets, Value, valueAt, present, octetsAt, firstFrom, badRows, valuesTooLong}
@@ -55,13 +55,13 @@ unfoldable pub nextIs : ℕ → List MandatoryRow → Bool
 nextIs c [] = false
 nextIs c (r ∷ rs) = eqb (r .code) c
 
--- a form, a fixed size of 1 to 255, a least whole length of 0 to 65,537 and of a half 0, a set of 1 to 255; halves in
--- pairs: right behind each low one a high one, and no high one elsewhere
+-- a form, a fixed size of 1 to 255, a least whole length of 0 to 65,537 and of a half 0, a set of 1 to 255 and of a half 1 to
+-- 65,535; halves in pairs: right behind each low one a high one, and no high one elsewhere
 unfoldable pub goodMandatory : Bool → MandatoryRow → List MandatoryRow → Bool
 goodMandatory afterLow r rs =
     leb (r .code) 4 && ((not (eqb (r .code) 2) || (leb 1 (r .size) && leb (r .size) 255))
     && (leb (r .least) 65537 && ((not (isHalf r) || eqb (r .least) 0)
-    && (leb 1 (r .kinds) && (leb (r .kinds) 255
+    && (leb 1 (r .kinds) && (leb (r .kinds) (mostKinds (isHalf r))
     && ((not (eqb (r .code) 0) || nextIs 1 rs)
     && (not (eqb (r .code) 1) || afterLow)))))))
 
@@ -106,7 +106,7 @@ foundBy lv-e (x ∷ xs) = counted 2 (x ∷ xs) (numberAt 2 0 (x ∷ xs))
 
 -- complete and under the least length: 8, TooShort; else not receivable: 9, Syntax
 unfoldable pub faultOf : MandatoryRow → ℕ → List ℕ → Option ℕ
-faultOf r took v = pick (ltb took (r .least)) (some 8) (pick (receivable (r .kinds) v) none (some 9))
+faultOf r took v = pick (ltb took (r .least)) (some 8) (pick (receivable (isHalf r) (r .kinds) v) none (some 9))
 
 -- the rows' outcome: the refusal if there is one, the octets read, the rows' numbers, the notes (row and number)
 pub record Rowed : Type 0 where

@@ -6,7 +6,7 @@ use mathlib.Core.Bool.{Bool, true, false, _&&_, _||_, not}
 use mathlib.Core.Option.{Option, none, some, Option·getD}
 use lib.ListN.{length, getD, take, drop}
 use lib.Dec.{ltb, leb, eqb}
-use Rattle.definitions.specs.Basic.{pick, among}
+use Rattle.definitions.specs.Basic.{pick, among, mostKinds}
 
 -- half octet; fixed n, so many value octets after the IEI; TLV, one length octet; TLV-E, two of them
 pub data Form : Type 0 where
@@ -54,6 +54,10 @@ formOf (suc (suc (suc c))) n = tlv-e
 unfoldable pub form : Row → Form
 form r = formOf (r .code) (r .size)
 
+-- whether the form is a half octet
+abbrev pub ofHalf : Row → Bool
+ofHalf r = eqb (r .code) 0
+
 -- ---- the table check
 
 -- an IEI that a row may list: an octet; from 0x80 up, with zero low four bits, exactly in a row of half octets
@@ -70,13 +74,14 @@ unfoldable pub fresh : List ℕ → List ℕ → Bool
 fresh used [] = true
 fresh used (x ∷ xs) = not (among x used) && fresh (x ∷ used) xs
 
--- 1 to 4 IEIs, a form, a fixed size of 0 to 255, a least whole length of 0 to 65,538, a set of 1 to 255, the IEI rules
+-- 1 to 4 IEIs, a form, a fixed size of 0 to 255, a least whole length of 0 to 65,538, a set of 1 to 65,535 for half octets and of 1
+-- to 255 for others, the IEI rules
 unfoldable pub goodRow : List ℕ → Row → Bool
 goodRow used r =
     leb 1 (r .count) && (leb (r .count) 4
     && (leb (r .code) 3 && ((not (eqb (r .code) 1) || leb (r .size) 255)
-    && (leb (r .least) 65538 && (leb 1 (r .kinds) && (leb (r .kinds) 255
-    && (allGood (eqb (r .code) 0) (ieis r) && fresh used (ieis r))))))))
+    && (leb (r .least) 65538 && (leb 1 (r .kinds) && (leb (r .kinds) (mostKinds (ofHalf r))
+    && (allGood (ofHalf r) (ieis r) && fresh used (ieis r))))))))
 
 abbrev pub mostPlaces : ℕ
 mostPlaces = 128

@@ -28,7 +28,7 @@ tableP =
 unfoldable pub optional1 : List ℕ
 optional1 =
     concat
-    (row 0xc0 0 0 1 255  -- non-current native nas key set identifier, 9.11.3.32
+    (row 0xc0 0 0 1 65535  -- non-current native nas key set identifier, 9.11.3.32
     ∷ row 0x10 2 0 3 255  -- 5gmm capability, 9.11.3.1
     ∷ row 0x2e 2 0 4 255  -- ue security capability, 9.11.3.54
     ∷ row 0x2f 2 0 4 255  -- requested nssai, 9.11.3.37
@@ -36,7 +36,7 @@ optional1 =
     ∷ row 0x17 2 0 4 255  -- s1 ue network capability, 9.11.3.48
     ∷ row 0x40 2 0 4 255  -- uplink data status, 9.11.3.57
     ∷ row 0x50 2 0 4 255  -- pdu session status, 9.11.3.44
-    ∷ row 0xb0 0 0 1 255  -- mico indication, 9.11.3.31
+    ∷ row 0xb0 0 0 1 65535  -- mico indication, 9.11.3.31
     ∷ row 0x2b 2 0 3 255  -- ue status, 9.11.3.56
     ∷ row 0x77 3 0 14 255  -- additional guti, 9.11.3.4
     ∷ row 0x25 2 0 4 255  -- allowed pdu session status, 9.11.3.13
@@ -44,9 +44,9 @@ optional1 =
     ∷ row 0x51 2 0 3 255  -- requested drx parameters, 9.11.3.2A
     ∷ row 0x70 3 0 4 255  -- eps nas message container, 9.11.3.24
     ∷ row 0x74 3 0 3 255  -- ladn indication, 9.11.3.29
-    ∷ row 0x80 0 0 1 255  -- payload container type, 9.11.3.40
+    ∷ row 0x80 0 0 1 33278  -- payload container type, 9.11.3.40
     ∷ row 0x7b 3 0 4 255  -- payload container, 9.11.3.39
-    ∷ row 0x90 0 0 1 255  -- network slicing indication, 9.11.3.36
+    ∷ row 0x90 0 0 1 65535  -- network slicing indication, 9.11.3.36
     ∷ row 0x53 2 0 3 255  -- 5gs update type, 9.11.3.9A
     ∷ row 0x41 2 0 5 255  -- mobile station classmark 2, 9.11.3.31C
     ∷ row 0x42 2 0 5 255  -- supported codecs, 9.11.3.51A
@@ -58,7 +58,7 @@ optional1 =
     ∷ row 0x35 2 0 3 255  -- requested mapped nssai, 9.11.3.31B
     ∷ row 0x48 2 0 3 255  -- additional information requested, 9.11.3.12A
     ∷ row 0x1a 2 0 3 255  -- requested wus assistance information, 9.11.3.71
-    ∷ row 0xa0 0 0 1 255  -- n5gc indication, 9.11.3.72
+    ∷ row 0xa0 0 0 1 65535  -- n5gc indication, 9.11.3.72
     ∷ row 0x30 2 0 3 255  -- requested nb-n1 mode drx parameters, 9.11.3.73
     ∷ [])
 
@@ -66,8 +66,8 @@ optional1 =
 unfoldable pub mandatory1 : List ℕ
 mandatory1 =
     concat
-    (plain 0 0 0 127  -- 5gs registration type, 9.11.3.7
-    ∷ plain 1 0 0 255  -- ngksi, 9.11.3.32
+    (plain 0 0 0 32639  -- 5gs registration type, 9.11.3.7
+    ∷ plain 1 0 0 65535  -- ngksi, 9.11.3.32
     ∷ plain 4 0 6 255  -- 5gs mobile identity, 9.11.3.4
     ∷ [])
 
@@ -86,8 +86,8 @@ optional2 =
     ∷ row 0x26 2 0 4 255  -- pdu session reactivation result, 9.11.3.42
     ∷ row 0x72 3 0 5 255  -- pdu session reactivation result error cause, 9.11.3.43
     ∷ row 0x79 3 0 12 255  -- ladn information, 9.11.3.30
-    ∷ row 0xb0 0 0 1 255  -- mico indication, 9.11.3.31
-    ∷ row 0x90 0 0 1 255  -- network slicing indication, 9.11.3.36
+    ∷ row 0xb0 0 0 1 65535  -- mico indication, 9.11.3.31
+    ∷ row 0x90 0 0 1 65535  -- network slicing indication, 9.11.3.36
     ∷ row 0x27 2 0 6 255  -- service area list, 9.11.3.49
     ∷ row 0x5e 2 0 3 255  -- t3512 value, 9.11.2.5
     ∷ row 0x5d 2 0 3 255  -- non-3gpp de-registration timer value, 9.11.2.4
@@ -96,17 +96,17 @@ optional2 =
     ∷ row 0x7a 3 0 7 255  -- extended emergency number list, 9.11.3.26
     ∷ row 0x73 3 0 20 255  -- sor transparent container, 9.11.3.51
     ∷ row 0x78 3 0 7 255  -- eap message, 9.11.2.2
-    ∷ row 0xa0 0 0 1 255  -- nssai inclusion mode, 9.11.3.37A
+    ∷ row 0xa0 0 0 1 65535  -- nssai inclusion mode, 9.11.3.37A
     ∷ row 0x76 3 0 3 255  -- operator-defined access category definitions, 9.11.3.38
     ∷ row 0x51 2 0 3 255  -- negotiated drx parameters, 9.11.3.2A
-    ∷ row 0xd0 0 0 1 255  -- non-3gpp nw policies, 9.11.3.36A
+    ∷ row 0xd0 0 0 1 65535  -- non-3gpp nw policies, 9.11.3.36A
     ∷ row 0x60 2 0 4 255  -- eps bearer context status, 9.11.3.23A
     ∷ row 0x6e 2 0 3 255  -- negotiated extended drx parameters, 9.11.3.26A
     ∷ row 0x6c 2 0 3 255  -- t3447 value, 9.11.2.5
     ∷ row 0x6b 2 0 3 255  -- t3448 value, 9.11.2.4
     ∷ row 0x6a 2 0 3 255  -- t3324 value, 9.11.2.5
     ∷ row 0x67 2 0 3 255  -- ue radio capability id, 9.11.3.68
-    ∷ row 0xe0 0 0 1 255  -- ue radio capability id deletion indication, 9.11.3.69
+    ∷ row 0xe0 0 0 1 65535  -- ue radio capability id deletion indication, 9.11.3.69
     ∷ row 0x39 2 0 4 255  -- pending nssai, 9.11.3.37
     ∷ row 0x74 3 0 34 255  -- ciphering key data, 9.11.3.18C
     ∷ row 0x75 3 0 3 255  -- cag information list, 9.11.3.18A
@@ -156,8 +156,8 @@ optional4 =
 unfoldable pub mandatory4 : List ℕ
 mandatory4 =
     concat
-    (plain 0 0 0 255  -- ngksi, 9.11.3.32
-    ∷ plain 1 0 0 255  -- service type, 9.11.3.50
+    (plain 0 0 0 65535  -- ngksi, 9.11.3.32
+    ∷ plain 1 0 0 4095  -- service type, 9.11.3.50
     ∷ plain 4 0 9 255  -- 5g-s-tmsi, 9.11.3.4
     ∷ [])
 
@@ -165,11 +165,11 @@ mandatory4 =
 unfoldable pub optional5 : List ℕ
 optional5 =
     concat
-    (row 0x90 0 0 1 127  -- pdu session type, 9.11.4.11
-    ∷ row 0xa0 0 0 1 126  -- ssc mode, 9.11.4.16
+    (row 0x90 0 0 1 32639  -- pdu session type, 9.11.4.11
+    ∷ row 0xa0 0 0 1 32382  -- ssc mode, 9.11.4.16
     ∷ row 0x28 2 0 3 255  -- 5gsm capability, 9.11.4.1
     ∷ row 0x55 1 2 3 255  -- maximum number of supported packet filters, 9.11.4.9
-    ∷ row 0xb0 0 0 1 255  -- always-on pdu session requested, 9.11.4.4
+    ∷ row 0xb0 0 0 1 65535  -- always-on pdu session requested, 9.11.4.4
     ∷ row 0x39 2 0 3 255  -- sm pdu dn request container, 9.11.4.15
     ∷ row 0x7b 3 0 4 255  -- extended protocol configuration options, 9.11.4.6
     ∷ row 0x66 2 0 5 255  -- ip header compression configuration, 9.11.4.24
@@ -195,7 +195,7 @@ optional6 =
     ∷ row 0x29 2 0 7 255  -- pdu address, 9.11.4.10
     ∷ row 0x56 1 1 2 255  -- rq timer value, 9.11.2.3
     ∷ row 0x22 2 0 3 255  -- s-nssai, 9.11.2.8
-    ∷ row 0x80 0 0 1 255  -- always-on pdu session indication, 9.11.4.3
+    ∷ row 0x80 0 0 1 65535  -- always-on pdu session indication, 9.11.4.3
     ∷ row 0x75 3 0 7 255  -- mapped eps bearer contexts, 9.11.4.8
     ∷ row 0x78 3 0 7 255  -- eap message, 9.11.2.2
     ∷ row 0x79 3 0 6 255  -- authorized qos flow descriptions, 9.11.4.12
@@ -204,7 +204,7 @@ optional6 =
     ∷ row 0x17 2 0 3 255  -- 5gsm network feature support, 9.11.4.18
     ∷ row 0x18 2 0 4 255  -- serving plmn rate control, 9.11.4.20
     ∷ row 0x77 3 0 3 255  -- atsss container, 9.11.4.22
-    ∷ row 0xc0 0 0 1 170  -- control plane only indication, 9.11.4.23
+    ∷ row 0xc0 0 0 1 43690  -- control plane only indication, 9.11.4.23
     ∷ row 0x66 2 0 5 255  -- ip header compression configuration, 9.11.4.24
     ∷ row 0x1f 2 0 3 255  -- ethernet header compression configuration, 9.11.4.28
     ∷ [])
@@ -213,8 +213,8 @@ optional6 =
 unfoldable pub mandatory6 : List ℕ
 mandatory6 =
     concat
-    (plain 0 0 0 127  -- selected pdu session type, 9.11.4.11
-    ∷ plain 1 0 0 126  -- selected ssc mode, 9.11.4.16
+    (plain 0 0 0 32639  -- selected pdu session type, 9.11.4.11
+    ∷ plain 1 0 0 32382  -- selected ssc mode, 9.11.4.16
     ∷ plain 4 0 6 255  -- authorized qos rules, 9.11.4.13
     ∷ plain 3 0 7 255  -- session ambr, 9.11.4.14
     ∷ [])

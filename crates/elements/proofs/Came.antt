@@ -54,7 +54,7 @@ module _ (table : List ℕ) (w : Whole table) (k : ℕ) where
   taken-same : (o : Option ℕ) (s : List ℕ) → taken stated o s ≡ taken row o s
   unfolding taken takenBy
   taken-same none s = refl
-  taken-same (some n) s = rw (form-same, w .least k, w .kinds k)
+  taken-same (some n) s = rw (form-same, w .code k, w .least k, w .kinds k)
 
   pub row-same : (s : List ℕ) → fitOf stated s ≡ fitOf row s
   unfolding fitOf

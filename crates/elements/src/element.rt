@@ -79,14 +79,19 @@ pub fn iei_of(x: u8) -> u8
     x
 }
 
-// The value rule: an empty value, or one whose first octet's low three bits are in the set.
-pub fn receivable(kinds: u32, value: &[u8]) -> bool
-    ensures { λ r. ⌜ r ≡ receivable kinds (now (value .entry)) ⌝ }
+// The value rule, by whether the form is a half octet: an empty value, or one whose first octet's low four bits, of another form
+// low three, are in the set.
+pub fn receivable(half: bool, kinds: u32, value: &[u8]) -> bool
+    ensures { λ r. ⌜ r ≡ receivable half kinds (now (value .entry)) ⌝ }
 {
     if value.len() == 0 {
         return true;
     }
-    (kinds >> (value[0] % 8)) % 2 == 1
+    let x = value[0];
+    if half {
+        return (kinds >> (x % 16)) % 2 == 1;
+    }
+    (kinds >> (x % 8)) % 2 == 1
 }
 
 // The octets before the value.
@@ -132,7 +137,7 @@ fn taken_by(row: Numbers, element: &[u8]) -> bool
         return false;
     }
     let h = header(form_of(row.code, row.size));
-    receivable(row.kinds, &element[h..])
+    receivable(row.code == 0, row.kinds, &element[h..])
 }
 
 // The verdict: accepted when its row takes it, not repeated, and in sequence or the option is on; else the first reason that

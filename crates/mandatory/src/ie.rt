@@ -3,6 +3,7 @@ use elements::element::receivable;
 use octets::Cursor;
 use octets::Pair;
 use rows::columns::MandatoryForm;
+use rows::columns::mandatory_code_at;
 use rows::columns::mandatory_form_at;
 use rows::columns::mandatory_kinds_at;
 use rows::columns::mandatory_least_at;
@@ -59,8 +60,9 @@ fn fault_of(table: &[u32], row: usize, took: usize, value: &[u8]) -> Fault
     ensures { λ r. ⌜ r ≡ faultAs (faultOf (mandatoryRowAt (mandatoryRowsOf (now (table .entry))) row) took (now (value .entry))) ⌝ }
 {
     let least = mandatory_least_at(table, row);
+    let half = mandatory_code_at(table, row) <= 1;
     let kinds = mandatory_kinds_at(table, row);
-    first_fault(took < least, !receivable(kinds, value))
+    first_fault(took < least, !receivable(half, kinds, value))
 }
 
 // A value of n octets behind h octets.

@@ -9,7 +9,7 @@ use borrow.Author.Tests.{le-leb, eq-eqb, eqb-true, leb-true}
 use lib.ListN.{length, getD, take, drop}
 use lib.Seq.{length-take-le}
 use lib.Dec.{leb, eqb}
-use Rattle.definitions.specs.Basic.{pick}
+use Rattle.definitions.specs.Basic.{pick, mostKinds}
 use Rattle.definitions.specs.Mandatory.{MandatoryForm, lowHalf, highHalf, fixedV, lv, lv-e, MandatoryRow, mandatoryFormOf, mandatoryForm, isHalf, nextIs, goodMandatory, Found, missing, truncated, value, behind, counted, foundBy, lowBits, highBits, fitsMandatory, encodedRow}
 use Rattle.definitions.proofs.Octets.{number-two, number-short}
 use Rattle.definitions.proofs.Mandatories.{found-lv, found-lv-e}
@@ -131,8 +131,8 @@ pub after-low : (after : Bool) (r : MandatoryRow) (rs : List MandatoryRow) → g
 unfolding goodMandatory mandatoryForm
 after-low after r rs g e =
     let p : (not (eqb (r .code) 1) || after) ≡ true =
-    last (leb (r .code) 4) (not (eqb (r .code) 2) || (leb 1 (r .size) && leb (r .size) 255)) (leb (r .least) 65537) (not (isHalf r) || eqb (r .least) 0) (leb 1 (r .kinds)) (leb (r .kinds) 255)
-    (not (eqb (r .code) 0) || nextIs 1 rs) (not (eqb (r .code) 1) || after) g in
+    last (leb (r .code) 4) (not (eqb (r .code) 2) || (leb 1 (r .size) && leb (r .size) 255)) (leb (r .least) 65537) (not (isHalf r) || eqb (r .least) 0)
+    (leb 1 (r .kinds)) (leb (r .kinds) (mostKinds (isHalf r))) (not (eqb (r .code) 0) || nextIs 1 rs) (not (eqb (r .code) 1) || after) g in
     rw (code-high (r .code) (r .size) e) at p
 
 pub form-low : (r : MandatoryRow) → eqb (r .code) 0 ≡ true → mandatoryForm r ≡ lowHalf

@@ -76,7 +76,7 @@ pub const REGISTRATION_REQUEST: [u32; 288] = [
     0,
     0,
     1,
-    255,
+    65_535,
     // 5gmm capability, 9.11.3.1
     1,
     0x10,
@@ -156,7 +156,7 @@ pub const REGISTRATION_REQUEST: [u32; 288] = [
     0,
     0,
     1,
-    255,
+    65_535,
     // ue status, 9.11.3.56
     1,
     0x2b,
@@ -236,7 +236,7 @@ pub const REGISTRATION_REQUEST: [u32; 288] = [
     0,
     0,
     1,
-    255,
+    33_278,
     // payload container, 9.11.3.39
     1,
     0x7b,
@@ -256,7 +256,7 @@ pub const REGISTRATION_REQUEST: [u32; 288] = [
     0,
     0,
     1,
-    255,
+    65_535,
     // 5gs update type, 9.11.3.9A
     1,
     0x53,
@@ -376,7 +376,7 @@ pub const REGISTRATION_REQUEST: [u32; 288] = [
     0,
     0,
     1,
-    255,
+    65_535,
     // requested nb-n1 mode drx parameters, 9.11.3.73
     1,
     0x30,
@@ -395,12 +395,12 @@ pub const REGISTRATION_REQUEST_MANDATORY: [u32; 12] = [
     0,
     0,
     0,
-    127,
+    32_639,
     // ngksi, 9.11.3.32
     1,
     0,
     0,
-    255,
+    65_535,
     // 5gs mobile identity, 9.11.3.4
     4,
     0,
@@ -529,7 +529,7 @@ pub const REGISTRATION_ACCEPT: [u32; 351] = [
     0,
     0,
     1,
-    255,
+    65_535,
     // network slicing indication, 9.11.3.36
     1,
     0x90,
@@ -539,7 +539,7 @@ pub const REGISTRATION_ACCEPT: [u32; 351] = [
     0,
     0,
     1,
-    255,
+    65_535,
     // service area list, 9.11.3.49
     1,
     0x27,
@@ -629,7 +629,7 @@ pub const REGISTRATION_ACCEPT: [u32; 351] = [
     0,
     0,
     1,
-    255,
+    65_535,
     // operator-defined access category definitions, 9.11.3.38
     1,
     0x76,
@@ -659,7 +659,7 @@ pub const REGISTRATION_ACCEPT: [u32; 351] = [
     0,
     0,
     1,
-    255,
+    65_535,
     // eps bearer context status, 9.11.3.23A
     1,
     0x60,
@@ -729,7 +729,7 @@ pub const REGISTRATION_ACCEPT: [u32; 351] = [
     0,
     0,
     1,
-    255,
+    65_535,
     // pending nssai, 9.11.3.37
     1,
     0x39,
@@ -934,12 +934,12 @@ pub const SERVICE_REQUEST_MANDATORY: [u32; 12] = [
     0,
     0,
     0,
-    255,
+    65_535,
     // service type, 9.11.3.50
     1,
     0,
     0,
-    255,
+    4_095,
     // 5g-s-tmsi, 9.11.3.4
     4,
     0,
@@ -958,7 +958,7 @@ pub const PDU_SESSION_ESTABLISHMENT_REQUEST: [u32; 117] = [
     0,
     0,
     1,
-    127,
+    32_639,
     // ssc mode, 9.11.4.16
     1,
     0xa0,
@@ -968,7 +968,7 @@ pub const PDU_SESSION_ESTABLISHMENT_REQUEST: [u32; 117] = [
     0,
     0,
     1,
-    126,
+    32_382,
     // 5gsm capability, 9.11.4.1
     1,
     0x28,
@@ -998,7 +998,7 @@ pub const PDU_SESSION_ESTABLISHMENT_REQUEST: [u32; 117] = [
     0,
     0,
     1,
-    255,
+    65_535,
     // sm pdu dn request container, 9.11.4.15
     1,
     0x39,
@@ -1141,7 +1141,7 @@ pub const PDU_SESSION_ESTABLISHMENT_ACCEPT: [u32; 144] = [
     0,
     0,
     1,
-    255,
+    65_535,
     // mapped eps bearer contexts, 9.11.4.8
     1,
     0x75,
@@ -1231,7 +1231,7 @@ pub const PDU_SESSION_ESTABLISHMENT_ACCEPT: [u32; 144] = [
     0,
     0,
     1,
-    170,
+    43_690,
     // ip header compression configuration, 9.11.4.24
     1,
     0x66,
@@ -1260,12 +1260,12 @@ pub const PDU_SESSION_ESTABLISHMENT_ACCEPT_MANDATORY: [u32; 16] = [
     0,
     0,
     0,
-    127,
+    32_639,
     // selected ssc mode, 9.11.4.16
     1,
     0,
     0,
-    126,
+    32_382,
     // authorized qos rules, 9.11.4.13
     4,
     0,

@@ -10,8 +10,8 @@ use borrow.Author.Tests.{eqb-true, eqb-false, ne-eqb, leb-true, ltb-true}
 use lib.ListN.{length, getD, set, length-set, getD-replicate}
 use lib.Seq.{getD-set-same, getD-set-other, ext-getD}
 use lib.Dec.{eqb, leb, ltb}
-use Rattle.definitions.specs.Basic.{pick, among}
-use Rattle.definitions.specs.Rows.{Row, ieis, goodIei, allGood, fresh, goodRow, mostPlaces, firstBadFrom, firstBad, placeFrom, placeOf, noPlace, indexEntry, index}
+use Rattle.definitions.specs.Basic.{pick, among, mostKinds}
+use Rattle.definitions.specs.Rows.{Row, ofHalf, ieis, goodIei, allGood, fresh, goodRow, mostPlaces, firstBadFrom, firstBad, placeFrom, placeOf, noPlace, indexEntry, index}
 use Rattle.definitions.proofs.RowLaws.{both}
 use Rattle.definitions.proofs.TableLaws.{index-length, index-at}
 use Rattle.rows.specs.Marks.{blank, free, enter, enterAll, enters, markOf, enterRow, inRange, ieisPass, passes, badFrom, indexed}
@@ -132,8 +132,8 @@ row-passes : (k : ℕ) (r : Row) (ix used : List ℕ) → k < 128 → Marks ix u
 unfolding passes inRange ieisPass goodRow
 row-passes k r ix used h m =
     rw (enters-fresh (eqb (r .code) 0) (markOf k) (ieis r) ix used (omega arith) m)
-    (sort (leb 1 (r .count)) (leb (r .count) 4) (leb (r .code) 3) (not (eqb (r .code) 1) || leb (r .size) 255) (leb (r .least) 65538) (leb 1 (r .kinds)) (leb (r .kinds) 255)
-    (allGood (eqb (r .code) 0) (ieis r) && fresh used (ieis r)))
+    (sort (leb 1 (r .count)) (leb (r .count) 4) (leb (r .code) 3) (not (eqb (r .code) 1) || leb (r .size) 255) (leb (r .least) 65538)
+    (leb 1 (r .kinds)) (leb (r .kinds) (mostKinds (ofHalf r))) (allGood (eqb (r .code) 0) (ieis r) && fresh used (ieis r)))
   where
     front : (x a b h : Bool) → (x && (a && (b && h))) ≡ (a && (b && (x && h)))
     front true a b h = refl

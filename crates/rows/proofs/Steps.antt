@@ -10,7 +10,7 @@ use mathlib.Core.Option.{Option, none, some}
 use lib.ListN.{length, getD, drop, drop-of-length-le, List·getD-eq-default}
 use lib.Seq.{drop-cons}
 use lib.Dec.{eqb, ltb, leb}
-use Rattle.definitions.specs.Basic.{pick}
+use Rattle.definitions.specs.Basic.{pick, mostKinds}
 use Rattle.definitions.specs.Rows.{Row, rowAt, ieis, goodIei, mostPlaces, noPlace}
 use Rattle.definitions.specs.Mandatory.{MandatoryRow, mandatoryRowAt, isHalf, nextIs, goodMandatory, mostMandatory, firstBadMandatoryFrom, firstBadMandatory}
 use Rattle.rows.specs.Marks.{free, enter, enterAll, enters, markOf, enterRow, passes, badFrom, indexed, plainInRange, paired}
@@ -149,7 +149,7 @@ unfolding goodMandatory plainInRange paired
 good-parts after r rs next e =
     rw e
     (six (leb (r .code) 4) (not (eqb (r .code) 2) || (leb 1 (r .size) && leb (r .size) 255)) (leb (r .least) 65537) (not (isHalf r) || eqb (r .least) 0)
-    (leb 1 (r .kinds)) (leb (r .kinds) 255) ((not (eqb (r .code) 0) || eqb next 1) && (not (eqb (r .code) 1) || after)))
+    (leb 1 (r .kinds)) (leb (r .kinds) (mostKinds (isHalf r))) ((not (eqb (r .code) 0) || eqb next 1) && (not (eqb (r .code) 1) || after)))
   where
     six : (a b c d e f g : Bool) → ((a && (b && (c && (d && (e && f))))) && g) ≡ (a && (b && (c && (d && (e && (f && g))))))
     six false b c d e f g = refl

@@ -10,8 +10,8 @@ use borrow.Author.Tests.{lt-ltb, le-ltb, ltb-true, ltb-false, leb-true, le-leb, 
 use lib.ListN.{length, getD, drop, length-take}
 use lib.Seq.{getD-drop, getD-take}
 use lib.Dec.{ltb, leb, eqb, lit<}
-use Rattle.definitions.specs.Basic.{pick}
-use Rattle.definitions.specs.Rows.{Row, rowOf, rowsOf, rowAt, ieis, firstIei, goodIei, allGood, fresh, goodRow, mostPlaces, firstBadFrom, firstBad, noRow}
+use Rattle.definitions.specs.Basic.{pick, mostKinds}
+use Rattle.definitions.specs.Rows.{Row, rowOf, rowsOf, rowAt, ieis, ofHalf, firstIei, goodIei, allGood, fresh, goodRow, mostPlaces, firstBadFrom, firstBad, noRow}
 use Rattle.definitions.proofs.RowLaws.{both}
 use Rattle.definitions.proofs.TableLaws.{past, row-at, iei-at, iei-count, count-is, row-count}
 use Rattle.rows.specs.Marks.{free, enter, enterAll, enters, markOf, enterRow, inRange, ieisPass, passes}
@@ -26,7 +26,8 @@ record Good (r : Row) : Type 0 where
 row-good : (used : List ℕ) (r : Row) → goodRow used r ≡ true → Good r
 unfolding goodRow
 row-good used r h =
-    by (leb 1 (r .count)) (leb (r .count) 4) (leb (r .code) 3) (not (eqb (r .code) 1) || leb (r .size) 255) (leb (r .least) 65538) (leb 1 (r .kinds)) (leb (r .kinds) 255 && (allGood (eqb (r .code) 0) (ieis r) && fresh used (ieis r))) refl refl h
+    by (leb 1 (r .count)) (leb (r .count) 4) (leb (r .code) 3) (not (eqb (r .code) 1) || leb (r .size) 255) (leb (r .least) 65538) (leb 1 (r .kinds))
+    (leb (r .kinds) (mostKinds (ofHalf r)) && (allGood (eqb (r .code) 0) (ieis r) && fresh used (ieis r))) refl refl h
   where
     by : (a b c d e f g : Bool) → leb 1 (r .count) ≡ a → leb 1 (r .kinds) ≡ f → (a && (b && (c && (d && (e && (f && g)))))) ≡ true → Good r
     by false b c d e f g p q h = absurd (false≢true h)

@@ -6,7 +6,7 @@ use mathlib.Core.Bool.{Bool, true, _&&_, _||_, not}
 use mathlib.Core.Option.{Option, none, some}
 use lib.ListN.{getD, set, replicate}
 use lib.Dec.{ltb, leb, eqb}
-use Rattle.definitions.specs.Basic.{pick}
+use Rattle.definitions.specs.Basic.{pick, mostKinds}
 use Rattle.definitions.specs.Rows.{Row, ieis, goodIei, mostPlaces, noPlace}
 use Rattle.definitions.specs.Mandatory.{MandatoryRow, isHalf}
 
@@ -40,7 +40,7 @@ enterRow k r ix = enterAll (markOf k) (ieis r) ix
 
 -- the numbers of a row behind its IEIs: the code and the size of its form, the least whole length, the set of kinds
 unfoldable pub inRange : ℕ → ℕ → ℕ → ℕ → Bool
-inRange code size least kinds = leb 1 kinds && (leb kinds 255 && (leb code 3 && ((not (eqb code 1) || leb size 255) && leb least 65538)))
+inRange code size least kinds = leb 1 kinds && (leb kinds (mostKinds (eqb code 0)) && (leb code 3 && ((not (eqb code 1) || leb size 255) && leb least 65538)))
 
 -- its IEIs: one to four, each good, and free when it is entered
 unfoldable pub ieisPass : ℕ → Row → List ℕ → Bool
@@ -66,7 +66,7 @@ unfoldable pub plainInRange : MandatoryRow → Bool
 plainInRange r =
     leb (r .code) 4 && ((not (eqb (r .code) 2) || (leb 1 (r .size) && leb (r .size) 255))
     && (leb (r .least) 65537 && ((not (isHalf r) || eqb (r .least) 0)
-    && (leb 1 (r .kinds) && leb (r .kinds) 255))))
+    && (leb 1 (r .kinds) && leb (r .kinds) (mostKinds (isHalf r))))))
 
 -- a low half before a high one, a high half after a low one
 unfoldable pub paired : Bool → ℕ → ℕ → Bool

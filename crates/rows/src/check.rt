@@ -17,7 +17,7 @@ ghost use mathlib.Core.Option.{none};
 ghost use Prim.Native.Nat.{_+_, _<_, suc};
 ghost use lib.ListN.{length, drop};
 ghost use lib.Dec.{eqb, leb};
-ghost use Rattle.definitions.specs.Basic.{pick, isNone};
+ghost use Rattle.definitions.specs.Basic.{pick, isNone, mostKinds};
 ghost use Rattle.definitions.specs.Rows.{rowsOf, rowAt, firstBad, index};
 ghost use Rattle.definitions.specs.Mandatory.{mandatoryRowsOf, mandatoryRowAt, goodMandatory, firstBadMandatory};
 ghost use Rattle.rows.specs.Marks.{inRange, passes, enterRow, badFrom, indexed, plainInRange, paired};
@@ -45,6 +45,16 @@ fn size_fits(code: u32, size: usize) -> bool
     size <= 255
 }
 
+// The greatest set: all sixteen values of a half octet, or all eight of another form.
+fn most_kinds(half: bool) -> u32
+    ensures { λ r. ⌜ r ≡ mostKinds half ⌝ }
+{
+    if half {
+        return 65_535;
+    }
+    255
+}
+
 // The ranges of a row's numbers behind its IEIs.
 fn in_range(code: u32, size: usize, least: usize, kinds: u32) -> bool
     ensures { λ r. ⌜ r ≡ inRange code size least kinds ⌝ }
@@ -52,7 +62,7 @@ fn in_range(code: u32, size: usize, least: usize, kinds: u32) -> bool
     if kinds < 1 {
         return false;
     }
-    if kinds > 255 {
+    if kinds > most_kinds(code == 0) {
         return false;
     }
     if code > 3 {
@@ -172,7 +182,7 @@ fn plain_in_range(table: &[u32], row: usize) -> bool
     if kinds < 1 {
         return false;
     }
-    kinds <= 255
+    kinds <= most_kinds(code <= 1)
 }
 
 // Halves stand in pairs: right behind each low one a high one, and no high one elsewhere.

@@ -26,10 +26,10 @@ unfolding form
 headed c = c .header .ensures ∙ ap header (c .before .form-of .ensures)
 
 sub-receivable : tie.Need-sub-receivable
-sub-receivable c = omega (arith, headed c, c .before .before .before .before .before .pre)
+sub-receivable c = omega (arith, headed (c .before), c .before .before .before .before .before .before .pre)
 
 part-receivable-start : tie.Need-part-receivable-start
-part-receivable-start c = omega (arith, headed c, c .before .before .before .before .before .pre)
+part-receivable-start c = omega (arith, headed (c .before), c .before .before .before .before .before .before .pre)
 
 part-receivable-end : tie.Need-part-receivable-end
 part-receivable-end c = search needs
@@ -39,8 +39,8 @@ receivable-requires c κs = search needs
 
 returns-2 : tie.Need-returns-2
 returns-2 c =
-    let a = c .before .before .before .before .before .before .before .args in
-    rw (long-enough (rowSaid (a .row)) (a .element .now) (omega arith), ← headed (c .before .before)) (rw to-end at (c .receivable .ensures))
+    let a = c .before .before .before .before .before .before .before .before .args in
+    rw (long-enough (rowSaid (a .row)) (a .element .now) (omega arith), ← headed (c .before .before .before)) (rw to-end at (c .receivable .ensures))
 
 pub taken-by-spec : {M : Type 1} → statement M
 taken-by-spec =

@@ -5,13 +5,16 @@ use mathlib.Core.Path.{_≡_, refl, _∙_}
 use mathlib.Core.Bool.{Bool, true, false, not}
 use mathlib.Core.Option.{Option, none, some}
 use Rattle.definitions.specs.Basic.{pick}
-use Rattle.definitions.specs.Mandatory.{faultOf}
+use Rattle.definitions.specs.Mandatory.{isHalf, faultOf}
 use borrow.Author.Needs.{needs}
 use Rattle.mandatory.proofs.ie.fault_of.Statement.{statement}
 use Rattle.mandatory.proofs.ie.fault_of.Tie as tie
 
 mandatory-least-at-requires : tie.Need-mandatory-least-at-requires
 mandatory-least-at-requires c κs = search needs
+
+mandatory-code-at-requires : tie.Need-mandatory-code-at-requires
+mandatory-code-at-requires c κs = search needs
 
 mandatory-kinds-at-requires : tie.Need-mandatory-kinds-at-requires
 mandatory-kinds-at-requires c κs = search needs
@@ -28,14 +31,17 @@ turned true = refl
 turned false = refl
 
 returns : tie.Need-returns
-unfolding faultOf
-returns c = c .first-fault .ensures ∙ rw (turned (c .before .receivable .result), c .before .receivable .ensures, c .before .before .mandatory-kinds-at .ensures, c .before .before .before .mandatory-least-at .ensures)
+unfolding faultOf isHalf
+returns c =
+    c .first-fault .ensures
+    ∙ rw (turned (c .before .receivable .result), c .before .receivable .ensures, c .before .before .mandatory-kinds-at .ensures, c .before .before .before .mandatory-code-at .ensures, c .before .before .before .before .mandatory-least-at .ensures)
 
 pub fault-of-spec : {M : Type 1} → statement M
 fault-of-spec =
     tie.close
     (tie.spec
     mandatory-least-at-requires
+    mandatory-code-at-requires
     mandatory-kinds-at-requires
     receivable-requires
     first-fault-requires

@@ -5,6 +5,7 @@ use mathlib.Core.Path.{_≡_, sym, _∙_}
 use mathlib.Core.Bool.{true, false, not, _||_}
 use lib.Dec.{eqb, leb}
 use borrow.Author.Tests.{le-leb, lt-leb, not-true, not-false}
+use Rattle.definitions.specs.Basic.{mostKinds}
 use Rattle.rows.specs.Marks.{inRange}
 use borrow.Author.Needs.{needs}
 use Rattle.rows.proofs.check.in_range.Statement.{statement}
@@ -14,13 +15,20 @@ returns : tie.Need-returns
 unfolding inRange
 returns c = let a = c .before .args in rw (lt-leb 1 (a .kinds) (omega arith))
 
+most-kinds-requires : tie.Need-most-kinds-requires
+most-kinds-requires c κs = search needs
+
 returns-2 : tie.Need-returns-2
 unfolding inRange
-returns-2 c = let a = c .before .before .args in rw (le-leb 1 (a .kinds) (omega arith), lt-leb (a .kinds) 255 (omega arith))
+returns-2 c =
+    let a = c .before .before .before .args in
+    rw (le-leb 1 (a .kinds) (omega arith), lt-leb (a .kinds) (mostKinds (eqb (a .code) 0)) (omega (arith, c .before .most-kinds .ensures)))
 
 returns-3 : tie.Need-returns-3
 unfolding inRange
-returns-3 c = let a = c .before .before .before .args in rw (le-leb 1 (a .kinds) (omega arith), le-leb (a .kinds) 255 (omega arith), lt-leb (a .code) 3 (omega arith))
+returns-3 c =
+    let a = c .before .before .before .before .args in
+    rw (le-leb 1 (a .kinds) (omega arith), le-leb (a .kinds) (mostKinds (eqb (a .code) 0)) (omega (arith, c .before .before .most-kinds .ensures)), lt-leb (a .code) 3 (omega arith))
 
 size-fits-requires : tie.Need-size-fits-requires
 size-fits-requires c κs = search needs
@@ -28,22 +36,25 @@ size-fits-requires c κs = search needs
 returns-4 : tie.Need-returns-4
 unfolding inRange
 returns-4 c =
-    let a = c .before .before .before .before .before .args in
+    let a = c .before .before .before .before .before .before .args in
+    let k = le-leb (a .kinds) (mostKinds (eqb (a .code) 0)) (omega (arith, c .before .before .before .before .most-kinds .ensures)) in
     let f : (not (eqb (a .code) 1) || leb (a .size) 255) ≡ false = sym (c .before .size-fits .ensures) ∙ not-true _ (c .if4 .taken) in
-    rw (le-leb 1 (a .kinds) (omega arith), le-leb (a .kinds) 255 (omega arith), le-leb (a .code) 3 (omega arith), f)
+    rw (le-leb 1 (a .kinds) (omega arith), k, le-leb (a .code) 3 (omega arith), f)
 
 returns-5 : tie.Need-returns-5
 unfolding inRange
 returns-5 c =
-    let a = c .before .before .before .before .before .args in
+    let a = c .before .before .before .before .before .before .args in
+    let k = le-leb (a .kinds) (mostKinds (eqb (a .code) 0)) (omega (arith, c .before .before .before .before .most-kinds .ensures)) in
     let f : (not (eqb (a .code) 1) || leb (a .size) 255) ≡ true = sym (c .before .size-fits .ensures) ∙ not-false _ (c .if4 .left) in
-    rw (le-leb 1 (a .kinds) (omega arith), le-leb (a .kinds) 255 (omega arith), le-leb (a .code) 3 (omega arith), f)
+    rw (le-leb 1 (a .kinds) (omega arith), k, le-leb (a .code) 3 (omega arith), f)
 
 pub in-range-spec : {M : Type 1} → statement M
 in-range-spec =
     tie.close
     (tie.spec
     returns
+    most-kinds-requires
     returns-2
     returns-3
     size-fits-requires

@@ -65,13 +65,17 @@ returns-5 c =
     let g : (not (leb (r .code) 1) || eqb (r .least) 0) ≡ true = rw (c .before .before .before .before .before .before .before .before .before .before .mandatory-code-at .ensures, c .before .before .before .before .before .mandatory-least-at .ensures) at (sym (c .before .before .before .half-fits .ensures) ∙ not-false _ (c .before .before .if4 .left)) in
     rw (le-leb (r .code) 4 (omega arith), f, le-leb (r .least) 65537 (omega arith), g, lt-leb 1 (r .kinds) (omega arith))
 
+most-kinds-requires : tie.Need-most-kinds-requires
+most-kinds-requires c κs = search needs
+
 returns-6 : tie.Need-returns-6
 unfolding plainInRange isHalf
 returns-6 c =
-    let r = mandatoryRowAt (mandatoryRowsOf (c .before .before .before .before .before .before .before .before .before .before .before .before .args .table .now)) (c .before .before .before .before .before .before .before .before .before .before .before .before .args .row) in
-    let f : (not (eqb (r .code) 2) || (leb 1 (r .size) && leb (r .size) 255)) ≡ true = rw (c .before .before .before .before .before .before .before .before .before .before .mandatory-code-at .ensures, c .before .before .before .before .before .before .before .before .mandatory-size-at .ensures) at (sym (c .before .before .before .before .before .before .before .plain-size-fits .ensures) ∙ not-false _ (c .before .before .before .before .before .before .if2 .left)) in
-    let g : (not (leb (r .code) 1) || eqb (r .least) 0) ≡ true = rw (c .before .before .before .before .before .before .before .before .before .before .mandatory-code-at .ensures, c .before .before .before .before .before .mandatory-least-at .ensures) at (sym (c .before .before .before .half-fits .ensures) ∙ not-false _ (c .before .before .if4 .left)) in
-    rw (le-leb (r .code) 4 (omega arith), f, le-leb (r .least) 65537 (omega arith), g, le-leb 1 (r .kinds) (omega arith), c .before .mandatory-kinds-at .ensures)
+    let r = mandatoryRowAt (mandatoryRowsOf (c .before .before .before .before .before .before .before .before .before .before .before .before .before .args .table .now)) (c .before .before .before .before .before .before .before .before .before .before .before .before .before .args .row) in
+    let f : (not (eqb (r .code) 2) || (leb 1 (r .size) && leb (r .size) 255)) ≡ true = rw (c .before .before .before .before .before .before .before .before .before .before .before .mandatory-code-at .ensures, c .before .before .before .before .before .before .before .before .before .mandatory-size-at .ensures) at (sym (c .before .before .before .before .before .before .before .before .plain-size-fits .ensures) ∙ not-false _ (c .before .before .before .before .before .before .before .if2 .left)) in
+    let g : (not (leb (r .code) 1) || eqb (r .least) 0) ≡ true = rw (c .before .before .before .before .before .before .before .before .before .before .before .mandatory-code-at .ensures, c .before .before .before .before .before .before .mandatory-least-at .ensures) at (sym (c .before .before .before .before .half-fits .ensures) ∙ not-false _ (c .before .before .before .if4 .left)) in
+    let h = c .before .before .before .before .before .before .before .before .before .before .before .mandatory-code-at .ensures in
+    rw (le-leb (r .code) 4 (omega arith), f, le-leb (r .least) 65537 (omega arith), g, le-leb 1 (r .kinds) (omega arith), c .most-kinds .ensures, c .before .before .mandatory-kinds-at .ensures, h)
 
 pub plain-in-range-spec : {M : Type 1} → statement M
 plain-in-range-spec =
@@ -88,4 +92,5 @@ plain-in-range-spec =
     returns-4
     mandatory-kinds-at-requires
     returns-5
+    most-kinds-requires
     returns-6)
