@@ -6,7 +6,7 @@ use mathlib.Core.List.{List, [], _∷_, _++_, map}
 use mathlib.Core.Bool.{Bool, true, false}
 use mathlib.Core.Option.{none, some}
 use lib.ListN.{replicate, getD, length}
-use Rattle.definitions.specs.Basic.{Answer, answer, Used, isNone, among, concat, refusal, over, overAt, content, tooLong, bit, receivable}
+use Rattle.definitions.specs.Basic.{Answer, answer, isNone, among, concat, refusal, over, overAt, content, tooLong, bit, receivable}
 use Rattle.definitions.specs.Octets.{run, number, numberAt}
 use Rattle.definitions.specs.Rows.{rowOf, rowsF, rowsOf, ieis, formOf, form, goodIei, allGood, fresh, goodRow, firstBadFrom, firstBad, ieiOf, placeFrom, placeOf, rowAt, firstIei}
 use Rattle.definitions.specs.Tables.{row, plain, tableP, startOf}
@@ -14,7 +14,7 @@ use Rattle.definitions.specs.Length.{header, lengthBy, stated, within, w
 use Rattle.definitions.specs.Elements.{ieiAt, including, meet, takenBy, taken, judged, octetsOf, known, stranger, strangerStep, placeStep, step, before, stepThen, partedF, parted, elementsOf, isAccepted, isAt}
 use Rattle.definitions.specs.Mandatory.{mandatoryRowsF, mandatoryRowsOf, mandatoryFormOf, mandatoryForm, isHalf, nextIs, goodMandatory, firstBadMandatoryFrom, firstBadMandatory, foundBy, faultOf, stopped, noted, rowed, mandatoryReading}
 use Rattle.definitions.specs.Logs.{lebF, leb128, keptEntry, keptOf, continued, countF, allowed, countAt, put, keptThen, keptListF, keptList, orEmpty, placedOf, orderEntry, entriesOf, plainFrom, orderOf, orderListF, orderList}
-use Rattle.definitions.specs.Reading.{Read, Lent, received, placeRow, placeRowsFrom, placeRows, cutOf, readingChecks, readElements, reading}
+use Rattle.definitions.specs.Reading.{Read, received, placeRow, placeRowsFrom, placeRows, cutOf, readingChecks, readElements, reading}
 use Rattle.definitions.specs.Values.{Edited, valueAt, present, sourceOf, octetsAt, goodValue, firstFrom, badRows, fits, unfitAt, valuesTooLong, placeChecks, setting}
 use Rattle.definitions.specs.Writing.{Wrote, encoded, elementAt, logged, addedFrom, below, notBelow, firsts, walked, written, unfit, octetsIn, octetsFor, writingChecks, writing}
 use Rattle.definitions.specs.Listing.{ascii, decimalF, decimal, hexDigit, hex, word, heading, line, lines, listed, listing}

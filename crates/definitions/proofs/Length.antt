@@ -1,17 +1,17 @@
 -- Laws of an element's length, once over the width of the length field, and of the unknown rule by the first octet.
 -- A field is there or short as its octets are; the whole length is then a comparison.
-use Prim.Native.Nat.{ℕ, zero, suc, _+_, _-_, _≤_, _<_}
+use Prim.Native.Nat.{ℕ, _+_, _-_, _≤_, _<_}
 use native.Mathlib.Omega.{arith}
-use mathlib.Core.Path.{_≡_, refl, ap, sym, _∙_}
+use mathlib.Core.Path.{_≡_, refl}
 use mathlib.Core.List.{List, [], _∷_}
-use mathlib.Core.Option.{Option, none, some, Option·map, Option·getD}
+use mathlib.Core.Option.{none, some, Option·getD}
 use mathlib.Core.Bool.{Bool, true, false, _||_}
 use borrow.Author.Tests.{le-leb, lt-leb, eq-eqb, ne-eqb, eqb-false}
 use lib.ListN.{length, getD}
 use lib.Dec.{leb, eqb}
 use Rattle.definitions.specs.Basic.{pick}
 use Rattle.definitions.specs.Octets.{numberAt}
-use Rattle.definitions.specs.Rows.{Form, half, fixed, tlv, tlv-e}
+use Rattle.definitions.specs.Rows.{half, tlv, tlv-e}
 use Rattle.definitions.specs.Length.{header, lengthBy, stated, within, whole, unknownForm, unknownLength, lacking, missing, required}
 
 -- a stated length that the octets have, or not

@@ -1,13 +1,12 @@
 -- Laws of lists that the loops cite: a copy of one element more, and a buffer whose front is written piece by piece.
 -- Each is a regrouping of take, drop and ++.
-use Prim.Native.Nat.{ℕ, zero, suc, _+_, _-_, _≤_, _<_, min}
+use Prim.Native.Nat.{ℕ, zero, suc, _+_, _-_, _≤_, _<_}
 use native.Mathlib.Omega.{arith}
 use native.Mathlib.Numerals.{add-one, add-two}
-use native.Mathlib.Nat.{add-comm}
 use mathlib.Core.Path.{_≡_, refl, ap, ap₂, sym, _∙_}
 use mathlib.Core.List.{List, [], _∷_, _++_, append-assoc, append-nil}
 use lib.ListN.{length, getD, take, drop, set, replicate, length-replicate, getD-replicate, take-append-drop, length-take, length-drop, length-append, drop-of-length-le}
-use lib.Seq.{drop-cons, take-suc, set-at, drop-drop, take-all, drop-at, take-at, length-take-le, take-append-seam, drop-append-seam, take-append-add, drop-append-add, sets-eq}
+use lib.Seq.{drop-cons, take-suc, set-at, drop-drop, take-all, length-take-le, take-append-seam, drop-append-seam, take-append-add, drop-append-add, sets-eq}
 use borrow.Rule.Slice.PartMut.{putMid, postOf}
 use Rattle.definitions.specs.Basic.{over, overAt}
 

@@ -4,13 +4,13 @@ use Prim.Native.Nat.{ℕ, zero, suc, _+_, _*_, _/_, _%_, _^_, _≤_, _<_}
 use native.Mathlib.Omega.{arith}
 use mathlib.Core.Path.{_≡_, refl, ap}
 use mathlib.Core.List.{List, [], _∷_, _++_, map, append-assoc}
-use mathlib.Core.Option.{Option, none, some}
-use mathlib.Core.Bool.{Bool, true, false, _&&_}
-use lib.ListN.{length, take, drop, length-append, length-drop}
+use mathlib.Core.Option.{Option, some}
+use mathlib.Core.Bool.{Bool, true, false}
+use lib.ListN.{length, take, length-append}
 use lib.Seq.{take-append-seam, drop-append-seam}
-use lib.Dec.{ltb, leb}
-use borrow.Author.Tests.{leb-true, ltb-false, lt-ltb, le-ltb, le-leb, ne-eqb}
-use Rattle.definitions.specs.Basic.{pick, mostOctets}
+use lib.Dec.{ltb}
+use borrow.Author.Tests.{ltb-false, lt-ltb, le-ltb, le-leb, ne-eqb}
+use Rattle.definitions.specs.Basic.{pick}
 use Rattle.definitions.specs.Elements.{Element, isAccepted}
 use Rattle.definitions.proofs.Logs.{leb-some}
 use Rattle.definitions.specs.Logs.{lebF, leb128, keptEntry, keptOf, Count, continued, countF, allowed, countAt, put, keptThen, keptListF, keptList, byForm, again, late, Placed, knownIei, notKnown, ignored, placedOf, orderEntry, entriesOf, orderListF, orderList}

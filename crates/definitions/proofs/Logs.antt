@@ -2,16 +2,15 @@
 -- A log's recursion is met once, by two counts that are both enough; everything else is a step at the front.
 use Prim.Native.Nat.{ℕ, zero, suc, _+_, _*_, _-_, _/_, _%_, _≤_, _<_}
 use native.Mathlib.Omega.{arith}
-use mathlib.Core.Path.{_≡_, refl, ap, sym, _∙_}
-use mathlib.Core.List.{List, [], _∷_, _++_}
+use mathlib.Core.Path.{_≡_, refl, ap, _∙_}
+use mathlib.Core.List.{List, [], _∷_}
 use mathlib.Core.Bool.{Bool, true, false, _&&_, _||_}
 use mathlib.Core.Option.{Option, none, some}
-use borrow.Author.Tests.{le-leb, lt-leb, le-ltb, lt-ltb, eq-eqb, ne-eqb, leb-true, leb-false, ltb-true, ltb-false, eqb-true, eqb-false}
-use lib.ListN.{length, getD, take, drop, length-take, length-drop, length-append}
-use lib.Seq.{drop-cons, drop-nil}
+use borrow.Author.Tests.{le-ltb, lt-ltb, leb-true, ltb-true, eqb-false}
+use lib.ListN.{length, getD, take, drop, length-drop, length-append}
 use lib.Dec.{leb, ltb, eqb}
 use Rattle.definitions.specs.Basic.{pick, Answer, answer, refusal, Used, tooLong, mostOctets, mostLog, overAt}
-use Rattle.definitions.specs.Logs.{lebF, leb128, keptEntry, Count, continued, countF, allowed, countAt, put, keptThen, keptListF, keptList, orEmpty, keptAt, Placed, knownIei, notKnown, ignored, byForm, again, late, orderEntry, orderListF, orderList, entryAt, Logged, pushing, asking}
+use Rattle.definitions.specs.Logs.{lebF, leb128, keptEntry, Count, continued, countF, allowed, countAt, put, keptThen, keptListF, keptList, Logged, pushing, asking}
 
 -- ---- a count at the front
 

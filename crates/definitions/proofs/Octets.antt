@@ -1,14 +1,13 @@
 -- Laws of reading octets: a run and a number at a position, there or short, over the number of octets.
 -- The test of a run is settled once by the comparison; a number of one octet more is one more digit in front.
-use Prim.Native.Nat.{ℕ, zero, suc, _+_, _*_, _^_, _≤_, _<_}
+use Prim.Native.Nat.{ℕ, suc, _+_, _*_, _^_, _≤_, _<_}
 use native.Mathlib.Omega.{arith}
-use native.Mathlib.Nat.{add-zero}
-use mathlib.Core.Path.{_≡_, refl, ap, sym, _∙_}
-use mathlib.Core.List.{List, [], _∷_}
-use mathlib.Core.Option.{Option, none, some, Option·map}
+use mathlib.Core.Path.{_≡_, ap, _∙_}
+use mathlib.Core.List.{List, _∷_}
+use mathlib.Core.Option.{none, some}
 use borrow.Author.Tests.{le-leb, lt-leb}
 use lib.ListN.{length, getD, take, drop, length-take, length-drop}
-use lib.Seq.{drop-cons, take-nil}
+use lib.Seq.{drop-cons}
 use Rattle.definitions.specs.Octets.{run, number, numberAt}
 
 module _ (n at : ℕ) (s : List ℕ) where

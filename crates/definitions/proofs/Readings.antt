@@ -1,18 +1,17 @@
 -- Reading by its checks: what it is at the first that refuses, and where none does.
 -- Each law settles the checks before it, in document 01's order.
-use Prim.Native.Nat.{ℕ, zero, suc, _+_, _*_, _≤_, _<_}
-use native.Mathlib.Omega.{arith}
-use mathlib.Core.Path.{_≡_, refl, ap, sym, _∙_}
+use Prim.Native.Nat.{ℕ, _*_, _≤_, _<_}
+use mathlib.Core.Path.{_≡_}
 use mathlib.Core.List.{List, [], _∷_}
-use mathlib.Core.Bool.{Bool, true, false}
-use mathlib.Core.Option.{Option, none, some}
+use mathlib.Core.Bool.{Bool}
+use mathlib.Core.Option.{none, some}
 use borrow.Author.Tests.{lt-ltb, le-ltb}
 use lib.ListN.{length}
-use Rattle.definitions.specs.Basic.{Answer, answer, refusal, mostOctets}
+use Rattle.definitions.specs.Basic.{answer, refusal, mostOctets}
 use Rattle.definitions.specs.Rows.{Row, rowsOf, firstBad}
 use Rattle.definitions.specs.Elements.{Element, Parted, elements, cutShort, elementsOf, parted}
 use Rattle.definitions.specs.Logs.{keptOf, orderOf}
-use Rattle.definitions.specs.Reading.{Lent, Read, unread, cutOf, readingChecks, readElements, reading}
+use Rattle.definitions.specs.Reading.{Lent, unread, cutOf, readingChecks, readElements, reading}
 
 module _ (table : List ℕ) (start : ℕ) (option : Bool) (part : List ℕ) (l : Lent) where
   abbrev t : List Row

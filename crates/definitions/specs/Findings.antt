@@ -1,8 +1,8 @@
 -- `optional_ie_order_findings` ("Pieces in port order", 6): the number of an entry and what is wrong with it.
-use Prim.Native.Nat.{ℕ, zero, suc, _*_, max}
+use Prim.Native.Nat.{ℕ, suc, _*_, max}
 use mathlib.Core.List.{List, [], _∷_}
-use mathlib.Core.Bool.{Bool, _||_}
-use mathlib.Core.Option.{Option, none, some, Option·getD}
+use mathlib.Core.Bool.{_||_}
+use mathlib.Core.Option.{none, Option·getD}
 use lib.ListN.{length, getD}
 use lib.Dec.{ltb}
 use Rattle.definitions.specs.Basic.{pick, isNone, concat, Answer, answer, refusal, refuse, refuseAt, unless, Used, content, tooLong, mostLog, over}

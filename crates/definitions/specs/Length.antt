@@ -1,7 +1,7 @@
 -- How long an element is, from the octets from its first octet on (TS 24.007, 11.2.4; "Reading the optional part").
-use Prim.Native.Nat.{ℕ, zero, suc, _+_, _-_}
+use Prim.Native.Nat.{ℕ, _+_, _-_}
 use mathlib.Core.List.{List, [], _∷_}
-use mathlib.Core.Bool.{Bool, true, false, _||_}
+use mathlib.Core.Bool.{Bool, _||_}
 use mathlib.Core.Option.{Option, none, some, Option·map, Option·getD}
 use lib.ListN.{length}
 use lib.Dec.{leb, eqb}

@@ -4,11 +4,11 @@ use Prim.Native.Nat.{ℕ, zero, suc, _+_, _*_, _/_, _%_}
 use mathlib.Core.List.{List, [], _∷_, _++_}
 use mathlib.Core.Bool.{Bool, true, false, _&&_, _||_}
 use mathlib.Core.Option.{Option, none, some}
-use lib.ListN.{length, getD, take, drop}
+use lib.ListN.{length, take, drop}
 use lib.Dec.{ltb, leb, eqb}
 use Rattle.definitions.specs.Basic.{pick, isNone, Answer, answer, refuse, refusal, unless, Used, content, tooLong, mostOctets, mostLog, overAt}
 use Rattle.definitions.specs.Rows.{Row, firstIei}
-use Rattle.definitions.specs.Elements.{Verdict, accepted, unknown, malformed, repeated, outOfSequence, Element, isAccepted, ieiAt}
+use Rattle.definitions.specs.Elements.{accepted, unknown, malformed, repeated, outOfSequence, Element, isAccepted, ieiAt}
 
 -- ---- the kept log
 

@@ -1,7 +1,6 @@
 -- Reading octets at a position ("Pieces in port order", 1). Past the end there is nothing, and nothing is read.
-use Prim.Native.Nat.{ℕ, zero, suc, _+_, _*_, _^_, _-_}
+use Prim.Native.Nat.{ℕ, _+_, _*_, _^_, _-_}
 use mathlib.Core.List.{List, [], _∷_}
-use mathlib.Core.Bool.{Bool}
 use mathlib.Core.Option.{Option, none, some, Option·map}
 use lib.ListN.{length, take, drop}
 use lib.Dec.{leb}

@@ -1,16 +1,15 @@
 -- Setting and clearing by the checks that calls on a place share: refused by the first of them, or what stands behind them.
 -- The first refusal of two lists is that of the first, or else of the second.
 use Prim.Native.Nat.{ℕ, _+_, _*_, _≤_, _<_}
-use mathlib.Core.Path.{_≡_, refl, ap, sym, _∙_}
+use mathlib.Core.Path.{_≡_, ap, sym, _∙_}
 use mathlib.Core.List.{List, [], _∷_}
-use mathlib.Core.Bool.{true, false, not}
+use mathlib.Core.Bool.{true, false}
 use mathlib.Core.Option.{Option, none, some}
 use borrow.Author.Tests.{lt-ltb, le-ltb}
 use lib.ListN.{length}
-use lib.Dec.{ltb}
-use Rattle.definitions.specs.Basic.{Answer, answer, refuse, refusal, Used, content, overAt, mostOctets}
+use Rattle.definitions.specs.Basic.{Answer, answer, refusal, Used, content, overAt}
 use Rattle.definitions.specs.Rows.{Row, Form, rowsOf, rowAt, form}
-use Rattle.definitions.specs.Values.{fits, valuesTooLong, placeChecks, Edited as DefEdited, setting, clearing}
+use Rattle.definitions.specs.Values.{fits, placeChecks, Edited as DefEdited, setting, clearing}
 use Rattle.values.specs.Rows.{sourcesOf}
 use Rattle.values.specs.Checks.{longWith}
 use Rattle.values.proofs.Checking.{refusal-append, long-none}

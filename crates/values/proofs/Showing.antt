@@ -1,19 +1,19 @@
 -- Showing a value: a row by its source, every row in turn, and what is shown after the checks.
 -- Each law settles the tests before it.
-use Prim.Native.Nat.{ℕ, zero, suc, _+_, _*_, _-_, _≤_, _<_}
+use Prim.Native.Nat.{ℕ, zero, suc, _+_, _-_, _≤_, _<_}
 use native.Mathlib.Omega.{arith}
 use native.Mathlib.Numerals.{add-one}
 use mathlib.Core.Path.{_≡_, refl, ap, _∙_}
 use mathlib.Core.List.{List, [], _∷_}
-use mathlib.Core.Bool.{Bool, true, false, _&&_, _||_, not}
+use mathlib.Core.Bool.{Bool, true, false, _&&_, not}
 use mathlib.Core.Option.{Option, none, some}
-use borrow.Author.Tests.{le-leb, lt-leb, lt-ltb, le-ltb}
+use borrow.Author.Tests.{le-leb, lt-leb}
 use lib.ListN.{length, take, drop}
 use lib.Seq.{take-nil, drop-nil}
 use lib.Dec.{leb, eqb}
-use Rattle.definitions.specs.Basic.{pick, isNone, Answer, answer, refuse, refusal, unless, Used, content, tooLong}
-use Rattle.definitions.specs.Rows.{Form, rowsOf, rowAt, form, firstBad}
-use Rattle.definitions.specs.Values.{Octets, Value, valueAt, present, sourceOf, octetsAt, goodValue, firstFrom, badRows, fits, unfitAt, valuesTooLong, placeChecks, shownBy, showing}
+use Rattle.definitions.specs.Basic.{pick, isNone, Answer, answer, refuse, refusal, unless, Used, content}
+use Rattle.definitions.specs.Rows.{Form, rowsOf, rowAt, form}
+use Rattle.definitions.specs.Values.{Octets, Value, valueAt, present, sourceOf, octetsAt, goodValue, firstFrom, fits, unfitAt, placeChecks, shownBy, showing}
 use Rattle.values.specs.Checks.{longWith}
 use Rattle.values.specs.Shows.{shownRow}
 use Rattle.values.specs.Rows.{sourcesOf}

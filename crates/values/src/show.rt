@@ -9,8 +9,6 @@ use octets::part;
 use rows::columns::Form;
 use rows::columns::form_at;
 ghost use mathlib.Core.Path.{_≡_};
-ghost use mathlib.Core.Option.{none};
-ghost use Rattle.definitions.specs.Rows.{rowsOf, firstBad};
 ghost use Rattle.definitions.specs.Values.{showing};
 ghost use Rattle.kept.specs.Kept.{usedOf};
 ghost use Rattle.rows.specs.Forms.{formAs};

@@ -1,6 +1,6 @@
 -- `put_raw` is `put_entry` of an element's first octet and the rest, where there is room.
 -- Each test is the definition's.
-use Prim.Native.Nat.{ℕ, _-_, _≤_}
+use Prim.Native.Nat.{ℕ, _≤_}
 use native.Mathlib.Omega.{arith}
 use mathlib.Core.Path.{ap, _∙_}
 use mathlib.Core.List.{List}

@@ -3,7 +3,7 @@
 use Prim.Native.Nat.{ℕ, _+_, _-_}
 use native.Mathlib.Omega.{arith}
 use mathlib.Core.Path.{_≡_, refl, sym, ap, _∙_}
-use lib.ListN.{length, take, drop, drop-of-length-le, length-drop}
+use lib.ListN.{take, drop, drop-of-length-le, length-drop}
 use lib.Seq.{take-all, take-nil}
 use Rattle.definitions.proofs.Lists.{to-end}
 use borrow.Author.Needs.{needs}

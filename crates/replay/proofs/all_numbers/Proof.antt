@@ -2,7 +2,6 @@
 -- The measure is what is left; nothing has to hold from turn to turn.
 use Prim.Native.Nat.{_-_}
 use native.Mathlib.Omega.{arith}
-use lib.ListN.{length}
 use borrow.Author.Needs.{needs}
 use Rattle.replay.proofs.all_numbers.Statement.{statement}
 use Rattle.replay.proofs.all_numbers.Tie as tie

@@ -2,8 +2,8 @@
 -- The measure is what is left; the lent buffer keeps its length.
 use Prim.Native.Nat.{_-_}
 use native.Mathlib.Omega.{arith}
-use mathlib.Core.Path.{_≡_, refl, _∙_}
-use lib.ListN.{length, length-set}
+use mathlib.Core.Path.{_≡_, refl}
+use lib.ListN.{length}
 use borrow.Author.Needs.{needs}
 use Rattle.replay_mandatory.proofs.fill_numbers.Statement.{statement}
 use Rattle.replay_mandatory.proofs.fill_numbers.Tie as tie

@@ -2,11 +2,11 @@
 -- By the law of two moves.
 use Prim.Native.Nat.{ℕ, _-_, _≤_}
 use native.Mathlib.Omega.{arith}
-use mathlib.Core.Path.{_≡_, ap, _∙_}
+use mathlib.Core.Path.{_≡_, _∙_}
 use mathlib.Core.List.{List}
 use lib.ListN.{length, take, drop, length-drop}
 use lib.Seq.{take-all, length-take-le}
-use Rattle.definitions.specs.Basic.{over, overAt}
+use Rattle.definitions.specs.Basic.{over}
 use Rattle.definitions.proofs.Lists.{lent-over, to-end, length-over}
 use Rattle.octets.proofs.Moves.{two-moves}
 use borrow.Author.Needs.{needs}

@@ -1,11 +1,7 @@
 -- `put_short` takes the widest piece that the octets have: twice that is never too little.
 -- With no octet, nothing is put.
-use Prim.Native.Nat.{zero}
 use native.Mathlib.Omega.{arith}
-use mathlib.Core.Path.{_≡_, refl, sym}
-use mathlib.Core.List.{List, [], _∷_}
-use lib.ListN.{length}
-use Rattle.definitions.specs.Basic.{over}
+use mathlib.Core.Path.{sym}
 use Rattle.octets.proofs.Moves.{over-empty}
 use borrow.Author.Needs.{needs}
 use Rattle.octets.proofs.copying.put_short.Statement.{statement}

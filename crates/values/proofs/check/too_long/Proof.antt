@@ -1,6 +1,6 @@
 -- `too_long` makes the tests of the definition one after the other.
 -- Each way out cites the law of its test.
-use Prim.Native.Nat.{_+_, _<_, _≤_}
+use Prim.Native.Nat.{_+_}
 use native.Mathlib.Omega.{arith}
 use mathlib.Core.Path.{sym, _∙_}
 use borrow.Author.Tests.{lt-ltb, le-ltb}

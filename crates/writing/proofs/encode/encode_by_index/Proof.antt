@@ -1,7 +1,7 @@
 -- `encode_by_index` makes the checks of the lengths, and writes from the octets that are used.
 -- What is behind those does not matter.
 use native.Mathlib.Omega.{arith}
-use mathlib.Core.Path.{_≡_, sym, _∙_}
+use mathlib.Core.Path.{sym, _∙_}
 use lib.ListN.{length-take}
 use Rattle.definitions.specs.Rows.{rowsOf}
 use Rattle.definitions.proofs.TableLaws.{few-places}

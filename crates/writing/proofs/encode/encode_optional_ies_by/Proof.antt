@@ -1,6 +1,6 @@
 -- `encode_optional_ies_by` writes by the table that the number names.
 -- Each arm names it; any other number has no table.
-use mathlib.Core.Path.{_≡_, refl, ap}
+use mathlib.Core.Path.{refl, ap}
 use Rattle.definitions.specs.Tables.{tableOf}
 use Rattle.definitions.proofs.WriteLaws.{write-by, write-none}
 use Rattle.kept.specs.Kept.{usedOf}

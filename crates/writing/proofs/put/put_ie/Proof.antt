@@ -2,7 +2,7 @@
 -- Each arm names it.
 use native.Mathlib.Omega.{arith}
 use Prim.Native.Nat.{_≤_}
-use mathlib.Core.Path.{_≡_, subst}
+use mathlib.Core.Path.{subst}
 use lib.ListN.{length}
 use Rattle.definitions.specs.Writing.{encoded}
 use Rattle.rows.specs.Forms.{formAs}
