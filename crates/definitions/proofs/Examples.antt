@@ -115,7 +115,8 @@ halves-hold = refl
 abbrev pair : List ℕ
 pair = plain 0 0 0 65535 ++ plain 1 0 0 4095
 
-pub high-halves-hold : map (λ x. mandatoryReading pair false (x ∷ []) (replicate 6 9) .said) (0x1c ∷ 0xc1 ∷ []) ≡ answer 0 (1 ∷ []) ∷ answer 9 (1 ∷ []) ∷ []
+pub high-halves-hold : map (λ x. mandatoryReading pair false (x ∷ []) (replicate 6 9) .said) (0x1c ∷ 0xc1 ∷ [])
+    ≡ answer 0 (1 ∷ []) ∷ answer 9 (1 ∷ []) ∷ []
 unfolding plain refusal over bit receivable mandatoryRowsF mandatoryRowsOf mandatoryFormOf mandatoryForm isHalf nextIs goodMandatory firstBadMandatoryFrom firstBadMandatory foundBy faultOf stopped noted rowed mandatoryReading
 high-halves-hold = refl
 
@@ -125,7 +126,8 @@ pub greatest-hold : map (λ r. firstBad (rowsOf r)) (row 0xc0 0 0 1 65535 ∷ ro
 unfolding row among rowOf rowsF rowsOf ieis goodIei allGood fresh goodRow firstBadFrom firstBad
 greatest-hold = refl
 
-pub greatest-mandatory-hold : map (λ (r : List ℕ). firstBadMandatory (mandatoryRowsOf r)) (pair ∷ (plain 0 0 0 1 ++ plain 1 0 0 65536) ∷ plain 3 0 0 255 ∷ plain 3 0 0 256 ∷ [])
+pub greatest-mandatory-hold : map (λ (r : List ℕ). firstBadMandatory (mandatoryRowsOf r))
+    (pair ∷ (plain 0 0 0 1 ++ plain 1 0 0 65536) ∷ plain 3 0 0 255 ∷ plain 3 0 0 256 ∷ [])
     ≡ none ∷ some 1 ∷ none ∷ some 0 ∷ []
 unfolding plain mandatoryRowsF mandatoryRowsOf isHalf nextIs goodMandatory firstBadMandatoryFrom firstBadMandatory
 greatest-mandatory-hold = refl

@@ -1,5 +1,6 @@
 -- "Rows of a table" and "Examples under table P": table P, and the six real tables of TS 24.501, edition 16.8.0, in clause 8.
--- Each row's words say the element; docs/TABLES.md says where each number is from.
+-- Each row's words say the element; docs/TABLES.md says where each number is from. The set of a half octet is over its sixteen
+-- values, that of another form over eight.
 use Prim.Native.Nat.{ℕ, zero, suc}
 use mathlib.Core.List.{List, [], _∷_}
 use mathlib.Core.Option.{Option, none, some}

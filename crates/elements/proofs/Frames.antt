@@ -18,7 +18,8 @@ unfolding receivable
 empty-received half kinds [] h = refl
 empty-received half kinds (x ∷ v) h = absurd (omega arith)
 
-pub first-received : (half : Bool) (kinds : ℕ) (v : List ℕ) → 0 < length v → receivable half kinds v ≡ eqb (kinds / 2 ^ (getD v 0 0 % breadth half) % 2) 1
+pub first-received : (half : Bool) (kinds : ℕ) (v : List ℕ) → 0 < length v
+    → receivable half kinds v ≡ eqb (kinds / 2 ^ (getD v 0 0 % breadth half) % 2) 1
 unfolding receivable bit
 first-received half kinds [] h = absurd (omega arith)
 first-received half kinds (x ∷ v) h = refl

@@ -40,7 +40,9 @@ enterRow k r ix = enterAll (markOf k) (ieis r) ix
 
 -- the numbers of a row behind its IEIs: the code and the size of its form, the least whole length, the set of kinds
 unfoldable pub inRange : ℕ → ℕ → ℕ → ℕ → Bool
-inRange code size least kinds = leb 1 kinds && (leb kinds (mostKinds (eqb code 0)) && (leb code 3 && ((not (eqb code 1) || leb size 255) && leb least 65538)))
+inRange code size least kinds =
+    leb 1 kinds && (leb kinds (mostKinds (eqb code 0))
+    && (leb code 3 && ((not (eqb code 1) || leb size 255) && leb least 65538)))
 
 -- its IEIs: one to four, each good, and free when it is entered
 unfoldable pub ieisPass : ℕ → Row → List ℕ → Bool

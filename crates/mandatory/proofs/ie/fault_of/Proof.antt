@@ -33,8 +33,10 @@ turned false = refl
 returns : tie.Need-returns
 unfolding faultOf isHalf
 returns c =
-    c .first-fault .ensures
-    ∙ rw (turned (c .before .receivable .result), c .before .receivable .ensures, c .before .before .mandatory-kinds-at .ensures, c .before .before .before .mandatory-code-at .ensures, c .before .before .before .before .mandatory-least-at .ensures)
+    let kinds = c .before .before .mandatory-kinds-at .ensures in
+    let code = c .before .before .before .mandatory-code-at .ensures in
+    let least = c .before .before .before .before .mandatory-least-at .ensures in
+    c .first-fault .ensures ∙ rw (turned (c .before .receivable .result), c .before .receivable .ensures, kinds, code, least)
 
 pub fault-of-spec : {M : Type 1} → statement M
 fault-of-spec =

@@ -28,7 +28,8 @@ returns-3 : tie.Need-returns-3
 unfolding inRange
 returns-3 c =
     let a = c .before .before .before .before .args in
-    rw (le-leb 1 (a .kinds) (omega arith), le-leb (a .kinds) (mostKinds (eqb (a .code) 0)) (omega (arith, c .before .before .most-kinds .ensures)), lt-leb (a .code) 3 (omega arith))
+    let k = le-leb (a .kinds) (mostKinds (eqb (a .code) 0)) (omega (arith, c .before .before .most-kinds .ensures)) in
+    rw (le-leb 1 (a .kinds) (omega arith), k, lt-leb (a .code) 3 (omega arith))
 
 size-fits-requires : tie.Need-size-fits-requires
 size-fits-requires c κs = search needs

@@ -75,7 +75,8 @@ returns-6 c =
     let f : (not (eqb (r .code) 2) || (leb 1 (r .size) && leb (r .size) 255)) ≡ true = rw (c .before .before .before .before .before .before .before .before .before .before .before .mandatory-code-at .ensures, c .before .before .before .before .before .before .before .before .before .mandatory-size-at .ensures) at (sym (c .before .before .before .before .before .before .before .before .plain-size-fits .ensures) ∙ not-false _ (c .before .before .before .before .before .before .before .if2 .left)) in
     let g : (not (leb (r .code) 1) || eqb (r .least) 0) ≡ true = rw (c .before .before .before .before .before .before .before .before .before .before .before .mandatory-code-at .ensures, c .before .before .before .before .before .before .mandatory-least-at .ensures) at (sym (c .before .before .before .before .half-fits .ensures) ∙ not-false _ (c .before .before .before .if4 .left)) in
     let h = c .before .before .before .before .before .before .before .before .before .before .before .mandatory-code-at .ensures in
-    rw (le-leb (r .code) 4 (omega arith), f, le-leb (r .least) 65537 (omega arith), g, le-leb 1 (r .kinds) (omega arith), c .most-kinds .ensures, c .before .before .mandatory-kinds-at .ensures, h)
+    let k = c .before .before .mandatory-kinds-at .ensures in
+    rw (le-leb (r .code) 4 (omega arith), f, le-leb (r .least) 65537 (omega arith), g, le-leb 1 (r .kinds) (omega arith), c .most-kinds .ensures, k, h)
 
 pub plain-in-range-spec : {M : Type 1} → statement M
 plain-in-range-spec =
