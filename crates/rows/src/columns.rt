@@ -4,7 +4,7 @@
 ghost use mathlib.Core.Path.{_≡_};
 ghost use Prim.Native.Nat.{_*_};
 ghost use lib.ListN.{length, getD, drop};
-ghost use Rattle.definitions.specs.Rows.{rowsOf, rowAt, ieis, form, formOf, firstIei};
+ghost use Rattle.definitions.specs.Rows.{rowsOf, rowAt, ieis, form, formOf};
 ghost use Rattle.definitions.specs.Mandatory.{mandatoryRowsOf, mandatoryRowAt, mandatoryForm, mandatoryFormOf};
 ghost use Rattle.rows.specs.Forms.{formAs, mandatoryFormAs};
 ghost use Rattle.rows.specs.Numbers.{numbersAt};
@@ -162,23 +162,6 @@ pub(crate) fn slot_at(table: &[u32], place: usize, number: usize) -> u32
         return 0;
     }
     number_at(table, place, 1 + number)
-}
-
-// An IEI of a row, at a number from 0; 0 past the last.
-pub fn iei_at(table: &[u32], place: usize, number: usize) -> u32
-    ensures { λ r. ⌜ r ≡ getD (ieis (rowAt (rowsOf (now (table .entry))) place)) number 0 ⌝ }
-{
-    if number >= iei_count(table, place) {
-        return 0;
-    }
-    slot_at(table, place, number)
-}
-
-// The IEI for added elements.
-pub fn first_iei(table: &[u32], place: usize) -> u32
-    ensures { λ r. ⌜ r ≡ firstIei (rowsOf (now (table .entry))) place ⌝ }
-{
-    iei_at(table, place, 0)
 }
 
 // ---- mandatory rows

@@ -1,5 +1,5 @@
 // What writing needs to know before an octet is written: whether the rows are well formed and the values fit, how many octets there
-// are to write, and which places the order log names.
+// are to write, which places the order log names, and which are added.
 use order::Front;
 use order::Placed;
 use order::entry_len;

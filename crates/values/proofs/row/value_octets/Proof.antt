@@ -31,7 +31,7 @@ returns-2 c =
     let a = c .before .before .before .before .before .before .before .args in
     let from = octets-received (sourcesOf (a .received .now) (a .set .now)) (valueOf (a .row)) (omega arith) in
     rw (from, ← c .before .before .before .before .wide .ensures .0, ← c .before .before .before .wide2 .ensures .0)
-        (c .part2 .ensures .0, ((λ h. c .part2 .ensures .1), (λ h. absurd (omega arith))))
+    (c .part2 .ensures .0, ((λ h. c .part2 .ensures .1), (λ h. absurd (omega arith))))
 
 part-requires-3 : tie.Need-part-requires-3
 part-requires-3 c κs = search needs
@@ -41,7 +41,7 @@ returns-3 c =
     let a = c .before .before .before .before .before .before .before .args in
     let from = octets-set (sourcesOf (a .received .now) (a .set .now)) (valueOf (a .row)) (omega arith) in
     rw (from, ← c .before .before .before .before .wide .ensures .0, ← c .before .before .before .wide2 .ensures .0)
-        (c .part3 .ensures .0, ((λ h. absurd (omega arith)), (λ h. c .part3 .ensures .1)))
+    (c .part3 .ensures .0, ((λ h. absurd (omega arith)), (λ h. c .part3 .ensures .1)))
 
 pub value-octets-spec : {M : Type 1} → statement M
 value-octets-spec =
