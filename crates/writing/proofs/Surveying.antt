@@ -5,7 +5,7 @@ use native.Mathlib.Omega.{arith}
 use native.Mathlib.Numerals.{add-one}
 use mathlib.Core.Path.{_≡_, refl, ap, sym, _∙_}
 use mathlib.Core.Bool.{Bool, true, false, _&&_, _||_, not}
-use borrow.Author.Tests.{eqb-true, eqb-false}
+use borrow.Author.Tests.{eq-eqb, ne-eqb, eqb-true, eqb-false}
 use mathlib.Core.Option.{none, some}
 use lib.ListN.{length, length-append}
 use lib.Dec.{eqb}
@@ -38,20 +38,6 @@ module _ (test : ℕ → Bool) (k n : ℕ) where
   first-over : n ≤ k → firstFrom test k (n - k) ≡ none
   unfolding firstFrom
   first-over h = let z : n - k ≡ 0 = omega arith in rw z
-
-same-eqb : (k : ℕ) → eqb k k ≡ true
-same-eqb k = by (eqb k k) refl
-  where
-    by : (b : Bool) → eqb k k ≡ b → b ≡ true
-    by true q = refl
-    by false q = absurd (eqb-false k k q refl)
-
-other-eqb : (j k : ℕ) → (j ≡ k → ⊥) → eqb j k ≡ false
-other-eqb j k i = by (eqb j k) refl
-  where
-    by : (b : Bool) → eqb j k ≡ b → b ≡ false
-    by true q = absurd (i (eqb-true j k q))
-    by false q = refl
 
 -- ---- the places
 
@@ -160,6 +146,6 @@ module _ (m : Filled) (set : ℕ) where
           by true e = passed (a .0) (a .1) (rw (a .2, e))
           by false e =
               let b : (j : ℕ) → bit j (setOf (with-it .seen)) ≡ (eqb j k || bit j (setOf (t .seen))) = λ j. ap (bit j) is ∙ bit-including j k (setOf (t .seen)) in
-              let y : bit k (setOf (with-it .seen)) ≡ true = b k ∙ rw (same-eqb k) in
+              let y : bit k (setOf (with-it .seen)) ≡ true = b k ∙ rw (eq-eqb k k refl) in
               let p : l ≡ length (addedPiece m (setOf (with-it .seen)) k) = a .3 ∙ sym (ap length (piece-added m (setOf (with-it .seen)) k y) ∙ any-iei m k (firstIei (m .table) k)) in
-              stepped (a .0) (a .1) with-it (λ j i. b j ∙ rw (other-eqb j k i)) (y ∙ sym (rw (a .2, e))) (ap (λ (j : ℕ). t .octets + j) p) (omega (arith, a .4))
+              stepped (a .0) (a .1) with-it (λ j i. b j ∙ rw (ne-eqb j k i)) (y ∙ sym (rw (a .2, e))) (ap (λ (j : ℕ). t .octets + j) p) (omega (arith, a .4))
