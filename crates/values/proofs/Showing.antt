@@ -11,7 +11,7 @@ use borrow.Author.Tests.{le-leb, lt-leb}
 use lib.ListN.{length, take, drop}
 use lib.Seq.{take-nil, drop-nil}
 use lib.Dec.{leb, eqb}
-use Rattle.definitions.specs.Basic.{pick, isNone, Answer, answer, refuse, refusal, unless, Used, content}
+use Rattle.definitions.specs.Basic.{pick, Answer, answer, refuse, refusal, unless, Used, content}
 use Rattle.definitions.specs.Rows.{Form, rowsOf, rowAt, form}
 use Rattle.definitions.specs.Values.{Octets, Value, valueAt, present, sourceOf, octetsAt, goodValue, firstFrom, fits, unfitAt, placeChecks, shownBy, showing}
 use Rattle.values.specs.Checks.{longWith}
@@ -47,16 +47,15 @@ module _ (test : ℕ → Bool) (n k : ℕ) (h : k < n) where
       let e : n - k ≡ suc (n - (k + 1)) = omega arith in
       rw (e, add-one k)
 
-  pub first-yes : test k ≡ true → not (isNone (firstFrom test k (n - k))) ≡ true
-  unfolding isNone
-  first-yes e = rw (from-here, e)
+  pub first-here : test k ≡ true → firstFrom test k (n - k) ≡ some k
+  first-here e = rw (from-here, e)
 
-  pub first-no : test k ≡ false → isNone (firstFrom test (k + 1) (n - (k + 1))) ≡ isNone (firstFrom test k (n - k))
-  first-no e = rw (from-here, e)
+  pub first-further : test k ≡ false → firstFrom test (k + 1) (n - (k + 1)) ≡ firstFrom test k (n - k)
+  first-further e = rw (from-here, e)
 
-pub first-end : (test : ℕ → Bool) (n k : ℕ) → n ≤ k → isNone (firstFrom test k (n - k)) ≡ true
-unfolding firstFrom isNone
-first-end test n k h = let e : n - k ≡ 0 = omega arith in rw e
+pub first-over : (test : ℕ → Bool) (n k : ℕ) → n ≤ k → firstFrom test k (n - k) ≡ none
+unfolding firstFrom
+first-over test n k h = let e : n - k ≡ 0 = omega arith in rw e
 
 -- ---- the octets of a value
 

@@ -4,9 +4,9 @@ use Prim.Native.Nat.{ℕ, zero, suc, _≤_}
 use native.Mathlib.Omega.{arith}
 use mathlib.Core.Path.{_≡_, refl, ap, sym, _∙_}
 use mathlib.Core.List.{List, []}
-use mathlib.Core.Bool.{Bool, true, false, not, false≢true}
+use mathlib.Core.Bool.{true, false, not}
 use mathlib.Core.Option.{none}
-use borrow.Author.Tests.{le-leb}
+use borrow.Author.Tests.{le-leb, not-false}
 use lib.ListN.{length, length-take, length-drop}
 use Rattle.definitions.specs.Rows.{Form, half, fixed, tlv, tlv-e, rowsOf, rowAt, form, formOf, firstBad}
 use Rattle.definitions.specs.Values.{Octets, Value, valueAt, present, sourceOf, octetsAt, fits, unfitAt}
@@ -47,14 +47,6 @@ module _ (received set : List ℕ) (r : length received ≤ 65535) (s : length s
   pub octets-short : (v : Value) → length (octetsAt (sourcesOf received set) v) ≤ 65535
   unfolding octetsAt
   octets-short v = simp (length-take, length-drop) (omega (arith, source-short (v .source)))
-
-pub not-false : (b : Bool) → not b ≡ false → b ≡ true
-not-false true h = refl
-not-false false h = absurd (false≢true (sym h))
-
-pub not-true : (b : Bool) → not b ≡ true → b ≡ false
-not-true true h = absurd (false≢true h)
-not-true false h = refl
 
 module _ (table rows received set : List ℕ) (k : ℕ) (row : ValueRow) (e : valueOf row ≡ valueAt rows k) where
   abbrev o : Octets

@@ -1,8 +1,7 @@
 -- The places looked at one by one: those before are well formed and fit, and their added elements with those left take what all take.
 -- Each step moves a place from what is left; the first that is malformed or does not fit decides.
-use Prim.Native.Nat.{ℕ, suc, _+_, _-_, _*_, _≤_, _<_}
+use Prim.Native.Nat.{ℕ, _+_, _-_, _*_, _≤_, _<_}
 use native.Mathlib.Omega.{arith}
-use native.Mathlib.Numerals.{add-one}
 use mathlib.Core.Path.{_≡_, refl, ap, sym, _∙_}
 use mathlib.Core.Bool.{Bool, true, false, _&&_, _||_, not}
 use borrow.Author.Tests.{eq-eqb, ne-eqb, eqb-true, eqb-false}
@@ -16,6 +15,7 @@ use Rattle.definitions.specs.Values.{valueAt, present, goodValue, firstFrom, ba
 use Rattle.definitions.specs.Writing.{Filled, firsts, unfit}
 use Rattle.definitions.proofs.BitLaws.{bit-including}
 use Rattle.seen.specs.Seen.{setOf, seenOf, includingPlace}
+use Rattle.values.proofs.Showing.{first-here, first-further, first-over}
 use Rattle.writing.specs.Walks.{addedIn, addedPiece, addedOctets}
 use Rattle.writing.specs.Sizes.{mostIe, addedTo, LookedAt, SurveyedBy}
 use Rattle.writing.specs.declared.sizes.Looked.{Looked}
@@ -23,23 +23,6 @@ use Rattle.writing.specs.declared.sizes.Surveyed.{Surveyed}
 use Rattle.writing.specs.declared.sizes.Tally.{Tally}
 use Rattle.writing.proofs.Tallying.{any-iei, bit-zero, set-with}
 use Rattle.writing.proofs.Cursor.{added-more, same-octets, piece-added, piece-not}
-
--- ---- the first of some numbers at which a test holds
-
-module _ (test : ℕ → Bool) (k n : ℕ) where
-  first-here : k < n → test k ≡ true → firstFrom test k (n - k) ≡ some k
-  unfolding firstFrom
-  first-here h e = let z : n - k ≡ suc (n - suc k) = omega arith in rw (z, e)
-
-  first-further : k < n → test k ≡ false → firstFrom test (k + 1) (n - (k + 1)) ≡ firstFrom test k (n - k)
-  unfolding firstFrom
-  first-further h e = let z : n - k ≡ suc (n - (k + 1)) = omega arith in rw (z, e, add-one k)
-
-  first-over : n ≤ k → firstFrom test k (n - k) ≡ none
-  unfolding firstFrom
-  first-over h = let z : n - k ≡ 0 = omega arith in rw z
-
--- ---- the places
 
 module _ (m : Filled) (set : ℕ) where
   abbrev n : ℕ
@@ -82,14 +65,14 @@ module _ (m : Filled) (set : ℕ) where
     unfolding badRows unfit isNone
     surveying-ended h q =
         let e : k ≡ n = omega (arith, s .inside) in
-        let g : firstFrom bad 0 n ≡ none = sym (s .good-before) ∙ first-over bad k n h in
-        let f : firstFrom not-fit 0 n ≡ none = sym (s .fit-before) ∙ first-over not-fit k n h in
+        let g : firstFrom bad 0 n ≡ none = sym (s .good-before) ∙ first-over bad n k h in
+        let f : firstFrom not-fit 0 n ≡ none = sym (s .fit-before) ∙ first-over not-fit n k h in
         (rw g, f, λ j l. s .bits j (omega arith), rw e at (s .sum), omega (arith, s .few))
 
     module _ (h : k < n) where
       pub surveying-bad : goodValue (m .octets) (valueAt (m .rows) k) ≡ false → SurveyedBy m set Surveyed.Malformed
       unfolding badRows isNone
-      surveying-bad e = let g : firstFrom bad 0 n ≡ some k = sym (s .good-before) ∙ first-here bad k n h (rw e) in rw g
+      surveying-bad e = let g : firstFrom bad 0 n ≡ some k = sym (s .good-before) ∙ first-here bad n k h (rw e) in rw g
 
       pub surveying-unfit : {r : Surveyed} → not-fit k ≡ true → r ≡ pick (badRows (m .octets) (m .rows) n) Surveyed.Malformed (Surveyed.Unfit k) → SurveyedBy m set r
       unfolding unfit
@@ -97,7 +80,7 @@ module _ (m : Filled) (set : ℕ) where
         where
           by : (b : Bool) → badRows (m .octets) (m .rows) n ≡ b → SurveyedBy m set (pick b Surveyed.Malformed (Surveyed.Unfit k))
           by true p = p
-          by false p = (p, sym (s .fit-before) ∙ first-here not-fit k n h e)
+          by false p = (p, sym (s .fit-before) ∙ first-here not-fit n k h e)
 
       -- a place that is well formed and fits, with a set that has it where it is wanted, and is else the same
       module _ (good : goodValue (m .octets) (valueAt (m .rows) k) ≡ true) (fit : not-fit k ≡ false) (u : Tally)
@@ -115,8 +98,8 @@ module _ (m : Filled) (set : ℕ) where
             record {
               inside = omega arith;
               few = omega (arith, s .few);
-              good-before = first-further bad k n h (rw good) ∙ s .good-before;
-              fit-before = first-further not-fit k n h fit ∙ s .fit-before;
+              good-before = first-further bad n k h (rw good) ∙ s .good-before;
+              fit-before = first-further not-fit n k h fit ∙ s .fit-before;
               bits = λ j l. bits-more j l (eqb j k) refl;
               no-bits = λ j l. others j (λ z. omega arith) ∙ s .no-bits j (omega arith);
               sum = omega (arith, more, s .sum, ap length same-before, ap length (added-more m (setOf (u .seen)) k) ∙ length-append (addedOctets m (setOf (u .seen)) 0 k) (addedPiece m (setOf (u .seen)) k));

@@ -4,10 +4,11 @@ use Prim.Native.Nat.{ℕ, _≤_, _-_}
 use native.Mathlib.Omega.{arith}
 use mathlib.Core.Path.{_≡_, ap, sym, _∙_}
 use mathlib.Core.Bool.{not}
+use mathlib.Core.Option.{Option}
 use Rattle.definitions.specs.Basic.{isNone}
 use Rattle.definitions.specs.Values.{valueAt, goodValue, firstFrom, badRows}
 use Rattle.values.specs.Rows.{sourcesOf}
-use Rattle.values.proofs.Showing.{first-yes, first-no, first-end}
+use Rattle.values.proofs.Showing.{first-here, first-further, first-over}
 use borrow.Author.Needs.{needs}
 use Rattle.values.proofs.row.any_bad.Statement.{statement}
 use Rattle.values.proofs.row.any_bad.Tie as tie
@@ -36,8 +37,8 @@ good-here : (c : tie.After-is-good Inv-loop μ-loop) → c .is-good .result ≡ 
 good-here c = c .is-good .ensures ∙ ap (goodValue (sourcesOf (c .before .before .before .before .before .before .before .args .received .now) (c .before .before .before .before .before .before .before .args .set .now))) (c .before .row-at .ensures)
 
 returns : tie.Need-returns Inv-loop μ-loop
-unfolding badRows
-returns c = sym (ap not (sym (c .before .before .before .before .loop .inv .1)) ∙ first-yes (λ j. not (goodValue (sourcesOf (c .before .before .before .before .before .before .before .before .args .received .now) (c .before .before .before .before .before .before .before .before .args .set .now)) (valueAt (c .before .before .before .before .before .before .before .before .args .rows .now) j))) (c .before .before .before .before .before .before .before .before .args .n) (c .before .before .before .before .loop .k) (omega arith) (ap not (sym (good-here (c .before))) ∙ c .if1 .taken))
+unfolding badRows isNone
+returns c = sym (ap not (sym (c .before .before .before .before .loop .inv .1)) ∙ ap (λ (o : Option ℕ). not (isNone o)) (first-here (λ j. not (goodValue (sourcesOf (c .before .before .before .before .before .before .before .before .args .received .now) (c .before .before .before .before .before .before .before .before .args .set .now)) (valueAt (c .before .before .before .before .before .before .before .before .args .rows .now) j))) (c .before .before .before .before .before .before .before .before .args .n) (c .before .before .before .before .loop .k) (omega arith) (ap not (sym (good-here (c .before))) ∙ c .if1 .taken)))
 
 add-k : tie.Need-add-k Inv-loop μ-loop
 add-k c = omega arith
@@ -46,11 +47,11 @@ loop-less : tie.Need-loop-less Inv-loop μ-loop
 loop-less c = omega arith
 
 loop-again : tie.Need-loop-again Inv-loop μ-loop
-loop-again c = (omega arith, first-no (λ j. not (goodValue (sourcesOf (c .before .before .before .before .before .before .before .before .args .received .now) (c .before .before .before .before .before .before .before .before .args .set .now)) (valueAt (c .before .before .before .before .before .before .before .before .args .rows .now) j))) (c .before .before .before .before .before .before .before .before .args .n) (c .before .before .before .before .loop .k) (omega arith) (ap not (sym (good-here (c .before))) ∙ c .if1 .left) ∙ c .before .before .before .before .loop .inv .1)
+loop-again c = (omega arith, ap isNone (first-further (λ j. not (goodValue (sourcesOf (c .before .before .before .before .before .before .before .before .args .received .now) (c .before .before .before .before .before .before .before .before .args .set .now)) (valueAt (c .before .before .before .before .before .before .before .before .args .rows .now) j))) (c .before .before .before .before .before .before .before .before .args .n) (c .before .before .before .before .loop .k) (omega arith) (ap not (sym (good-here (c .before))) ∙ c .if1 .left)) ∙ c .before .before .before .before .loop .inv .1)
 
 returns-2 : tie.Need-returns-2 Inv-loop μ-loop
-unfolding badRows
-returns-2 c = sym (ap not (sym (c .before .loop .inv .1) ∙ first-end (λ j. not (goodValue (sourcesOf (c .before .before .before .before .before .args .received .now) (c .before .before .before .before .before .args .set .now)) (valueAt (c .before .before .before .before .before .args .rows .now) j))) (c .before .before .before .before .before .args .n) (c .before .loop .k) (omega arith)))
+unfolding badRows isNone
+returns-2 c = sym (ap not (sym (c .before .loop .inv .1) ∙ ap isNone (first-over (λ j. not (goodValue (sourcesOf (c .before .before .before .before .before .args .received .now) (c .before .before .before .before .before .args .set .now)) (valueAt (c .before .before .before .before .before .args .rows .now) j))) (c .before .before .before .before .before .args .n) (c .before .loop .k) (omega arith))))
 
 pub any-bad-spec : {M : Type 1} → statement M
 any-bad-spec =

@@ -3,11 +3,12 @@
 use native.Mathlib.Omega.{arith}
 use mathlib.Core.Path.{_≡_, ap, sym, _∙_}
 use mathlib.Core.Bool.{not}
+use borrow.Author.Tests.{not-true, not-false}
 use lib.ListN.{length}
 use Rattle.definitions.specs.Values.{valueAt, goodValue, unfitAt}
 use Rattle.values.specs.Rows.{valueOf, sourcesOf}
 use Rattle.definitions.specs.Rows.{rowsOf}
-use Rattle.writing.proofs.Places.{form-there, octets-short, not-present, is-present, unfit-there, length-there, not-true, not-false}
+use Rattle.writing.proofs.Places.{form-there, octets-short, not-present, is-present, unfit-there, length-there}
 use borrow.Author.Needs.{needs}
 use Rattle.writing.proofs.sizes.look.Statement.{statement}
 use Rattle.writing.proofs.sizes.look.Tie as tie

@@ -3,6 +3,7 @@
 use Prim.Native.Nat.{_<_}
 use native.Mathlib.Omega.{arith}
 use mathlib.Core.Path.{_≡_, ap, sym, _∙_}
+use borrow.Author.Tests.{not-true, not-false}
 use lib.ListN.{length, length-take, length-drop}
 use Rattle.definitions.specs.Rows.{rowsOf, rowAt, form, firstIei}
 use Rattle.definitions.specs.Writing.{encoded, elementAt}
@@ -14,7 +15,7 @@ use Rattle.rows.specs.declared.columns.Numbers.{Numbers}
 use Rattle.rows.proofs.WholeRows.{whole-rows}
 use Rattle.seen.specs.Seen.{setOf}
 use Rattle.writing.specs.Walks.{filledOf, addedPiece}
-use Rattle.writing.proofs.Places.{form-there, absent, not-true, not-false}
+use Rattle.writing.proofs.Places.{form-there, absent}
 use Rattle.writing.proofs.Putting.{piece-there, writes-there, put-nothing, put-from, bears-octet}
 use Rattle.writing.proofs.Cursor.{piece-added, piece-not}
 use borrow.Author.Needs.{needs}
