@@ -2,7 +2,7 @@
 -- By where the bit that is asked for stands: at the one that is added, below it or above it.
 use Prim.Native.Nat.{ℕ, suc, _+_, _-_, _/_, _%_, _^_}
 use native.Mathlib.Omega.{arith}
-use native.Mathlib.Nat.{add-div-right, add-mul-div-left}
+use native.Mathlib.Nat.{add-div-right, add-mul-div-left, zero-div}
 use mathlib.Core.Path.{_≡_, refl, sym, ap, _∙_}
 use mathlib.Core.Bool.{Bool, true, false, _||_}
 use lib.Pow.{pow-pos, pow-add, shr-shr}
@@ -54,3 +54,8 @@ bit-including j k set = go (bit k set) refl
     go : (b : Bool) → bit k set ≡ b → bit j (pick b set (set + 2 ^ k)) ≡ (eqb j k || bit j set)
     go true h = stays (eqb j k) refl h
     go false h = bit-added k set h j
+
+-- none is in the empty set
+pub no-bit : (j : ℕ) → bit j 0 ≡ false
+unfolding bit
+no-bit j = rw (zero-div (2 ^ j))

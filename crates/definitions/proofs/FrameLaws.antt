@@ -3,11 +3,11 @@
 use Prim.Native.Nat.{ℕ, zero, suc, _+_, _-_, _*_, _/_, _%_, _≤_, _<_}
 use native.Mathlib.Omega.{arith}
 use mathlib.Core.Path.{_≡_, refl, sym, ap, _∙_}
-use mathlib.Core.List.{List, [], _∷_}
+use mathlib.Core.List.{List, [], _∷_, _++_}
 use mathlib.Core.Option.{Option, none, some, Option·map}
 use mathlib.Core.Bool.{Bool, true, false}
-use lib.ListN.{length, getD, take, drop}
-use lib.Seq.{take-nil, length-take-le}
+use lib.ListN.{length, getD, take, drop, length-append}
+use lib.Seq.{take-nil, length-take-le, take-append-le, take-take}
 use lib.Dec.{leb}
 use borrow.Author.Tests.{leb-true, leb-false, le-leb, eq-eqb}
 use Rattle.definitions.specs.Basic.{pick}
@@ -16,6 +16,7 @@ use Rattle.definitions.specs.Rows.{Form, half, fixed, tlv, tlv-e, ieiOf}
 use Rattle.definitions.specs.Length.{header, lengthBy, stated, within, whole}
 use Rattle.definitions.specs.Values.{fits}
 use Rattle.definitions.specs.Writing.{encoded}
+use Rattle.definitions.proofs.Steps.{Frames, whole-frames}
 use Rattle.definitions.proofs.RowLaws.{Bears}
 
 -- ---- the IEI of a first octet
@@ -59,7 +60,7 @@ within-same none s s′ l = refl
 within-same (some n) s s′ l = rw l
 
 -- the whole length is the same of octets that are as many, and the same as far as the header goes
-field-same : (w : ℕ) (s s′ : List ℕ) → length s′ ≡ length s → take (1 + w) s′ ≡ take (1 + w) s → lengthBy w s′ ≡ lengthBy w s
+pub field-same : (w : ℕ) (s s′ : List ℕ) → leb (1 + w) (length s′) ≡ leb (1 + w) (length s) → take (1 + w) s′ ≡ take (1 + w) s → lengthBy w s′ ≡ lengthBy w s
 unfolding lengthBy numberAt run
 field-same w s s′ l e =
     let c : 1 + w - 1 ≡ w = omega arith in
@@ -70,8 +71,34 @@ pub whole-same : (f : Form) (s s′ : List ℕ) → length s′ ≡ length s →
 unfolding whole within stated header
 whole-same half s s′ l e = rw l
 whole-same (fixed n) s s′ l e = rw l
-whole-same tlv s s′ l e = rw (field-same 1 s s′ l e) (within-same (lengthBy 1 s) s s′ l)
-whole-same tlv-e s s′ l e = rw (field-same 2 s s′ l e) (within-same (lengthBy 2 s) s s′ l)
+whole-same tlv s s′ l e = rw (field-same 1 s s′ (rw l) e) (within-same (lengthBy 1 s) s s′ l)
+whole-same tlv-e s s′ l e = rw (field-same 2 s s′ (rw l) e) (within-same (lengthBy 2 s) s s′ l)
+
+-- an element that is whole is so in front of other octets
+pub whole-front : (f : Form) (s z : List ℕ) (n : ℕ) → whole f s ≡ some n → whole f (take n s ++ z) ≡ some n
+unfolding whole within stated header
+whole-front f s z n e = go f (frames-of e)
+  where
+    frames-of : whole f s ≡ some n → Frames f s (some n)
+    frames-of e = rw e at (whole-frames f s)
+
+    long : n ≤ length s → n ≤ length (take n s ++ z)
+    long h = simp length-append (omega (arith, length-take-le n s h))
+
+    heads : (h : ℕ) → n ≤ length s → h ≤ n → take h (take n s ++ z) ≡ take h s
+    heads h l k = take-append-le h (take n s) z (omega (arith, length-take-le n s l)) ∙ take-take h n s k
+
+    by : (w : ℕ) → n ≤ length s → 1 + w ≤ n → lengthBy w s ≡ some n → lengthBy w (take n s ++ z) ≡ some n
+    by w l k q = field-same w s (take n s ++ z) (rw (le-leb (1 + w) (length s) (omega arith), le-leb (1 + w) (length (take n s ++ z)) (omega (arith, long l)))) (heads (1 + w) l k) ∙ q
+
+    states : (f : Form) → Frames f s (some n) → stated f (take n s ++ z) ≡ some n
+    states half g = g .0
+    states (fixed m) g = g .0
+    states tlv g = by 1 (g .1) (g .3) (g .0)
+    states tlv-e g = by 2 (g .1) (g .3) (g .0)
+
+    go : (f : Form) → Frames f s (some n) → within (take n s ++ z) (stated f (take n s ++ z)) ≡ some n
+    go f g = rw (states f g, le-leb n (length (take n s ++ z)) (long (g .1)))
 
 -- ---- there and back
 

@@ -13,6 +13,13 @@ pub mod BitLaws
 pub mod Orders
 pub mod LogSteps
 pub mod LogWalks
+pub mod Checks
 pub mod Readings
+pub mod Blocks
+pub mod BlockExamples
+pub mod PlainLaws
+pub mod Checkings
+pub mod Ieis
 pub mod WriteLaws
 pub mod Mandatories
+pub mod Whys

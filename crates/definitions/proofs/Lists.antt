@@ -2,7 +2,7 @@
 -- Each is a regrouping of take, drop and ++.
 use Prim.Native.Nat.{ℕ, zero, suc, _+_, _-_, _≤_, _<_}
 use native.Mathlib.Omega.{arith}
-use native.Mathlib.Numerals.{add-one, add-two}
+use native.Mathlib.Numerals.{add-one, add-two, add-three}
 use mathlib.Core.Path.{_≡_, refl, ap, ap₂, sym, _∙_}
 use mathlib.Core.List.{List, [], _∷_, _++_, append-assoc, append-nil}
 use lib.ListN.{length, getD, take, drop, set, replicate, length-replicate, getD-replicate, take-append-drop, length-take, length-drop, length-append, drop-of-length-le}
@@ -112,6 +112,12 @@ unfolding overAt over
 set-three n a b c d h =
     let e : drop 3 (drop n d) ≡ drop (n + 3) d = drop-drop 3 n d in
     rw (add-one n, add-two n, e) (sets-eq (a ∷ b ∷ c ∷ []) d n h ∙ append-assoc (take n d) (a ∷ b ∷ c ∷ []) (drop (n + 3) d))
+
+pub set-four : (n a b c e : ℕ) (d : List ℕ) → n + 4 ≤ length d → set (set (set (set d n a) (n + 1) b) (n + 2) c) (n + 3) e ≡ overAt n (a ∷ b ∷ c ∷ e ∷ []) d
+unfolding overAt over
+set-four n a b c e d h =
+    let f : drop 4 (drop n d) ≡ drop (n + 4) d = drop-drop 4 n d in
+    rw (add-one n, add-two n, add-three n, f) (sets-eq (a ∷ b ∷ c ∷ e ∷ []) d n h ∙ append-assoc (take n d) (a ∷ b ∷ c ∷ e ∷ []) (drop (n + 4) d))
 
 -- one zero more at the front
 pub zero-step : (n i : ℕ) (d : List ℕ) → i < n → i < length d → set (take i (replicate n 0) ++ drop i d) i 0 ≡ take (i + 1) (replicate n 0) ++ drop (i + 1) d

@@ -14,7 +14,7 @@ use lib.ListN.{length, getD, take, drop, length-drop, length-take, List·getD-eq
 use lib.Seq.{drop-drop, drop-nil, getD-take, getD-drop}
 use Rattle.definitions.specs.Rows.{Row, Form, half, fixed, tlv, tlv-e, width, rowOf, rowsF, rowsOf, rowAt, ieis, form, formOf, firstIei, goodRow, mostPlaces, firstBadFrom, firstBad, placeOf, ieiOf, noPlace, indexEntry, indexFrom, index, placeIn}
 use Rattle.definitions.specs.Basic.{pick, among}
-use Rattle.definitions.proofs.RowLaws.{Bears, both, listed, passes}
+use Rattle.definitions.proofs.RowLaws.{Bears, both, listed, passes, placed-at}
 use Rattle.definitions.specs.Mandatory.{MandatoryRow, lv-e, mandatoryRowsF, mandatoryRowsOf, mandatoryRowAt, mandatoryFormOf}
 
 -- a number past the end
@@ -23,56 +23,56 @@ past n s k h = getD-drop n s k 0 ∙ List·getD-eq-default s 0 h
 
 -- ---- optional rows
 
-row-atF : (f : ℕ) (s : List ℕ) (k : ℕ) → length s ≤ f → rowAt (rowsF f s) k ≡ rowOf (drop (9 * k) s)
+row-atF : (f : ℕ) (s : List ℕ) (k : ℕ) → length s ≤ f → rowAt (rowsF f s) k ≡ rowOf (drop (10 * k) s)
 unfolding rowsF rowAt rowOf
-row-atF zero [] k h = ap rowOf (sym (drop-nil (9 * k)))
+row-atF zero [] k h = ap rowOf (sym (drop-nil (10 * k)))
 row-atF zero (x ∷ xs) k h = absurd (omega arith)
-row-atF (suc f) [] k h = ap rowOf (sym (drop-nil (9 * k)))
+row-atF (suc f) [] k h = ap rowOf (sym (drop-nil (10 * k)))
 row-atF (suc f) (x ∷ xs) zero h = refl
 row-atF (suc f) (x ∷ xs) (suc k) h =
-    let e : 9 + 9 * k ≡ 9 * suc k = omega arith in
-    row-atF f (drop width (x ∷ xs)) k (simp length-drop (omega arith)) ∙ ap rowOf (drop-drop (9 * k) 9 (x ∷ xs) ∙ ap (λ (n : ℕ). drop n (x ∷ xs)) e)
+    let e : 10 + 10 * k ≡ 10 * suc k = omega arith in
+    row-atF f (drop width (x ∷ xs)) k (simp length-drop (omega arith)) ∙ ap rowOf (drop-drop (10 * k) 10 (x ∷ xs) ∙ ap (λ (n : ℕ). drop n (x ∷ xs)) e)
 
--- row k is made of the numbers from 9 * k on; past the end it has none
-pub row-at : (s : List ℕ) (k : ℕ) → rowAt (rowsOf s) k ≡ rowOf (drop (9 * k) s)
+-- row k is made of the numbers from 10 * k on; past the end it has none
+pub row-at : (s : List ℕ) (k : ℕ) → rowAt (rowsOf s) k ≡ rowOf (drop (10 * k) s)
 unfolding rowsOf
 row-at s k = row-atF (length s) s k (omega arith)
 
-row-countF : (f : ℕ) (s : List ℕ) → length s ≤ f → length (rowsF f s) ≡ (length s + 8) / 9
+row-countF : (f : ℕ) (s : List ℕ) → length s ≤ f → length (rowsF f s) ≡ (length s + 9) / 10
 unfolding rowsF
 row-countF zero [] h = refl
 row-countF zero (x ∷ xs) h = absurd (omega arith)
 row-countF (suc f) [] h = refl
 row-countF (suc f) (x ∷ xs) h =
-    let l : length (drop width (x ∷ xs)) ≡ suc (length xs) - 9 = length-drop width (x ∷ xs) in
-    let r : length (rowsF f (drop width (x ∷ xs))) ≡ (length (drop width (x ∷ xs)) + 8) / 9 = row-countF f (drop width (x ∷ xs)) (omega arith) in
+    let l : length (drop width (x ∷ xs)) ≡ suc (length xs) - 10 = length-drop width (x ∷ xs) in
+    let r : length (rowsF f (drop width (x ∷ xs))) ≡ (length (drop width (x ∷ xs)) + 9) / 10 = row-countF f (drop width (x ∷ xs)) (omega arith) in
     omega arith
 
-pub row-count : (s : List ℕ) → length (rowsOf s) ≡ (length s + 8) / 9
+pub row-count : (s : List ℕ) → length (rowsOf s) ≡ (length s + 9) / 10
 unfolding rowsOf
 row-count s = row-countF (length s) s (omega arith)
 
 -- the IEIs of row k: how many, and the one at a number
-pub iei-count : (s : List ℕ) (k : ℕ) → length (ieis (rowAt (rowsOf s) k)) ≡ min (getD s (9 * k) 0) (min 4 (length s - 9 * k - 1))
+pub iei-count : (s : List ℕ) (k : ℕ) → length (ieis (rowAt (rowsOf s) k)) ≡ min (getD s (10 * k) 0) (min 4 (length s - 10 * k - 1))
 unfolding ieis rowOf
 iei-count s k =
-    let z : 9 * k + 0 ≡ 9 * k = omega arith in
+    let z : 10 * k + 0 ≡ 10 * k = omega arith in
     rw (row-at s k) (simp (length-take, length-drop, getD-drop, z))
 
-pub count-is : (s : List ℕ) (k : ℕ) → rowAt (rowsOf s) k .count ≡ getD s (9 * k) 0
+pub count-is : (s : List ℕ) (k : ℕ) → rowAt (rowsOf s) k .count ≡ getD s (10 * k) 0
 unfolding rowOf
 count-is s k =
-    let z : 9 * k + 0 ≡ 9 * k = omega arith in
-    ap (λ (r : Row). r .count) (row-at s k) ∙ getD-drop (9 * k) s 0 0 ∙ ap (λ (n : ℕ). getD s n 0) z
+    let z : 10 * k + 0 ≡ 10 * k = omega arith in
+    ap (λ (r : Row). r .count) (row-at s k) ∙ getD-drop (10 * k) s 0 0 ∙ ap (λ (n : ℕ). getD s n 0) z
 
-pub iei-at : (s : List ℕ) (k j : ℕ) → j < getD s (9 * k) 0 → j < 4 → getD (ieis (rowAt (rowsOf s) k)) j 0 ≡ getD s (9 * k + (1 + j)) 0
+pub iei-at : (s : List ℕ) (k j : ℕ) → j < getD s (10 * k) 0 → j < 4 → getD (ieis (rowAt (rowsOf s) k)) j 0 ≡ getD s (10 * k + (1 + j)) 0
 unfolding ieis rowOf
 iei-at s k j h g =
-    let z : 9 * k + 0 ≡ 9 * k = omega arith in
-    let c : j < getD (drop (9 * k) s) 0 0 = rw (getD-drop (9 * k) s 0 0, z) h in
-    let d : List ℕ = drop (9 * k) s in
+    let z : 10 * k + 0 ≡ 10 * k = omega arith in
+    let c : j < getD (drop (10 * k) s) 0 0 = rw (getD-drop (10 * k) s 0 0, z) h in
+    let d : List ℕ = drop (10 * k) s in
     ap (λ (r : Row). getD (ieis r) j 0) (row-at s k)
-    ∙ getD-take (getD d 0 0) (take 4 (drop 1 d)) j 0 c ∙ getD-take 4 (drop 1 d) j 0 g ∙ getD-drop 1 d j 0 ∙ getD-drop (9 * k) s (1 + j) 0
+    ∙ getD-take (getD d 0 0) (take 4 (drop 1 d)) j 0 c ∙ getD-take 4 (drop 1 d) j 0 g ∙ getD-drop 1 d j 0 ∙ getD-drop (10 * k) s (1 + j) 0
 
 pub form-long : (c n : ℕ) → 3 ≤ c → formOf c n ≡ tlv-e
 unfolding formOf
@@ -212,17 +212,24 @@ unfolding among
 first-among [] h = absurd (omega arith)
 first-among (x ∷ xs) h = rw (eq-eqb x x refl)
 
-pub first-bears : (table : List ℕ) (k : ℕ) → firstBad (rowsOf table) ≡ none → k < length (rowsOf table)
-    → Bears (form (rowAt (rowsOf table) k)) (firstIei (rowsOf table) k)
-unfolding firstIei rowOf
-first-bears table k p h =
-    let g = passes (rowsOf table) k p h in
-    let w : 9 * k + 8 < length table = by (ltb (9 * k + 8) (length table)) refl (g .kind) in
-    let c : 1 ≤ getD table (9 * k) 0 = omega (arith, g .listing, count-is table k) in
-    g .each _ (first-among (ieis (rowAt (rowsOf table) k)) (omega (arith, iei-count table k)))
-  where
-    by : (b : Bool) → ltb (9 * k + 8) (length table) ≡ b → 1 ≤ rowAt (rowsOf table) k .kinds → 9 * k + 8 < length table
-    by true e g = ltb-true (9 * k + 8) (length table) e
-    by false e g =
-        let z : rowAt (rowsOf table) k .kinds ≡ 0 = ap (λ (r : Row). r .kinds) (row-at table k) ∙ past (9 * k) table 8 (ltb-false (9 * k + 8) (length table) e) in
-        absurd (omega arith)
+module _ (table : List ℕ) (k : ℕ) (p : firstBad (rowsOf table) ≡ none) (h : k < length (rowsOf table)) where
+  first-listed : among (firstIei (rowsOf table) k) (ieis (rowAt (rowsOf table) k)) ≡ true
+  unfolding firstIei rowOf
+  first-listed =
+      let g = passes (rowsOf table) k p h in
+      let w : 10 * k + 9 < length table = by (ltb (10 * k + 9) (length table)) refl (g .kind) in
+      let c : 1 ≤ getD table (10 * k) 0 = omega (arith, g .listing, count-is table k) in
+      first-among (ieis (rowAt (rowsOf table) k)) (omega (arith, iei-count table k))
+    where
+      by : (b : Bool) → ltb (10 * k + 9) (length table) ≡ b → 1 ≤ rowAt (rowsOf table) k .kinds → 10 * k + 9 < length table
+      by true e g = ltb-true (10 * k + 9) (length table) e
+      by false e g =
+          let z : rowAt (rowsOf table) k .kinds ≡ 0 = ap (λ (r : Row). r .kinds) (row-at table k) ∙ past (10 * k) table 9 (ltb-false (10 * k + 9) (length table) e) in
+          absurd (omega arith)
+
+  pub first-bears : Bears (form (rowAt (rowsOf table) k)) (firstIei (rowsOf table) k)
+  first-bears = passes (rowsOf table) k p h .each _ first-listed
+
+  -- and its place is that one
+  pub first-place : placeOf (rowsOf table) (firstIei (rowsOf table) k) ≡ some k
+  first-place = placed-at (rowsOf table) k (firstIei (rowsOf table) k) p h first-listed

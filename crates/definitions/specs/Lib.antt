@@ -8,8 +8,11 @@ pub mod Length
 pub mod Elements
 pub mod Logs
 pub mod Reading
+pub mod Block
+pub mod Checking
 pub mod Values
 pub mod Writing
 pub mod Mandatory
 pub mod Findings
 pub mod Listing
+pub mod Why

@@ -1,9 +1,9 @@
--- What nas-list prints of a part, as octets ("Examples under table P"): table P, option off.
+-- What nas-list prints of a part, as octets ("Examples under table P"): by a table and the option, or by table P, option off.
 use Prim.Native.Nat.{ℕ, zero, suc, _+_, _/_, _%_}
 use Prim.Native.Char.{code}
 use Prim.Native.String.{String}
 use mathlib.Core.List.{List, [], _∷_, _++_}
-use mathlib.Core.Bool.{false}
+use mathlib.Core.Bool.{Bool, false}
 use lib.ListN.{length}
 use lib.Dec.{ltb}
 use Rattle.definitions.specs.Basic.{pick}
@@ -67,7 +67,11 @@ abbrev pub mostListed : ℕ
 mostListed = 4096
 
 -- the header, then the listing; over 4,096 octets, too long
-unfoldable pub listing : List ℕ → List ℕ
-listing part =
+unfoldable pub listingBy : List ℕ → Bool → List ℕ → List ℕ
+listingBy table option part =
     heading
-    ++ pick (ltb mostListed (length part)) (ascii "too long" ++ newline) (listed (length part) (parted (rowsOf tableP) startOf false part))
+    ++ pick (ltb mostListed (length part)) (ascii "too long" ++ newline) (listed (length part) (parted (rowsOf table) startOf option part))
+
+-- document 01's: table P, option off
+abbrev pub listing : List ℕ → List ℕ
+listing part = listingBy tableP false part

@@ -10,27 +10,28 @@ use Rattle.definitions.specs.Rows.{Row, rowsOf, rowAt, form, firstBad}
 use Rattle.definitions.specs.Tables.{tableOf, startOf}
 use Rattle.definitions.specs.Length.{header}
 use Rattle.definitions.specs.Elements.{Element, Parted, elements, cutShort, parted, elementsOf, isAccepted, isAt}
-use Rattle.definitions.specs.Logs.{keptOf, orderOf}
+use Rattle.definitions.specs.Logs.{Placed, keptOf, orderOf, orderList, orEmpty, ieiFor}
+use Rattle.definitions.specs.Values.{placeWidth}
 
--- the three numbers of a place with an accepted element: source 1, start and length of the value. A half octet has no octet
+-- the four numbers of a place with an accepted element: source 1, start and length of the value, and an IEI. A half octet has no octet
 -- before its value, which is its whole octet
-unfoldable pub received : List Row → ℕ → Element → List ℕ
-received t k e =
+unfoldable pub received : List Row → ℕ → ℕ → Element → List ℕ
+received t iei k e =
     let h : ℕ = header (form (rowAt t k)) in
-    1 ∷ (e .at + h) ∷ (length (e .octets) - h) ∷ []
+    1 ∷ (e .at + h) ∷ (length (e .octets) - h) ∷ iei ∷ []
 
--- the numbers of a place after reading: those of its accepted element, or three times 0
-unfoldable pub placeRow : List Row → List Element → ℕ → List ℕ
-placeRow t [] k = 0 ∷ 0 ∷ 0 ∷ []
-placeRow t (e ∷ es) k = pick (isAccepted (e .verdict) && isAt k e) (received t k e) (placeRow t es k)
+-- the numbers of a place after reading: those of its accepted element, with the IEI by the entries of the order log, or four times 0
+unfoldable pub placeRow : List Row → List Placed → List Element → ℕ → List ℕ
+placeRow t ps [] k = 0 ∷ 0 ∷ 0 ∷ 0 ∷ []
+placeRow t ps (e ∷ es) k = pick (isAccepted (e .verdict) && isAt k e) (received t (ieiFor t ps k) k e) (placeRow t ps es k)
 
 -- n places from place k on
-unfoldable pub placeRowsFrom : List Row → List Element → ℕ → ℕ → List ℕ
-placeRowsFrom t es k zero = []
-placeRowsFrom t es k (suc n) = placeRow t es k ++ placeRowsFrom t es (suc k) n
+unfoldable pub placeRowsFrom : List Row → List Placed → List Element → ℕ → ℕ → List ℕ
+placeRowsFrom t ps es k zero = []
+placeRowsFrom t ps es k (suc n) = placeRow t ps es k ++ placeRowsFrom t ps es (suc k) n
 
 unfoldable pub placeRows : List Row → List Element → List ℕ
-placeRows t es = placeRowsFrom t es 0 (length t)
+placeRows t es = placeRowsFrom t (orEmpty (orderList (orderOf t es))) es 0 (length t)
 
 -- what is lent to reading
 pub record Lent : Type 0 where
@@ -59,7 +60,7 @@ unfoldable pub readingChecks : List Row → List ℕ → Lent → Parted → Lis
 readingChecks t part l p =
     refuseAt 4 (firstBad t)
     ∷ refuse (ltb mostOctets (length part)) 3 []
-    ∷ refuse (ltb (length (l .rows)) (3 * length t)) 2 (1 ∷ [])
+    ∷ refuse (ltb (length (l .rows)) (placeWidth * length t)) 2 (1 ∷ [])
     ∷ cutOf p
     ∷ refuse (ltb (length (l .kept)) (length (keptOf (elementsOf p)))) 2 (2 ∷ [])
     ∷ refuse (ltb (length (l .order)) (length (orderOf t (elementsOf p)))) 2 (3 ∷ [])

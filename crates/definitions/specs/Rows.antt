@@ -1,5 +1,6 @@
 -- "Rows of a table": the rows of a table of optional elements as they are lent, the table check, the place of an IEI.
--- A row is nine numbers: how many IEIs, four of them, the form's code, its size, the least whole length, the set of kinds.
+-- A row is ten numbers: how many IEIs, four of them, the form's code, its size, the least and the greatest whole length, the set of
+-- kinds. Receiving does not look at the greatest length (document 02, item 8).
 use Prim.Native.Nat.{ℕ, zero, suc, _*_, _/_, _%_, min}
 use mathlib.Core.List.{List, [], _∷_, _++_}
 use mathlib.Core.Bool.{Bool, true, false, _&&_, _||_, not}
@@ -21,15 +22,16 @@ pub record Row : Type 0 where
   pub code : ℕ
   pub size : ℕ
   pub least : ℕ
+  pub greatest : ℕ
   pub kinds : ℕ
 
 -- how many numbers a row has
 abbrev pub width : ℕ
-width = 9
+width = 10
 
--- the row that the first nine numbers are; a number that is not there counts as 0
+-- the row that the first ten numbers are; a number that is not there counts as 0
 unfoldable pub rowOf : List ℕ → Row
-rowOf s = record { count = getD s 0 0; slots = take 4 (drop 1 s); code = getD s 5 0; size = getD s 6 0; least = getD s 7 0; kinds = getD s 8 0 }
+rowOf s = record { count = getD s 0 0; slots = take 4 (drop 1 s); code = getD s 5 0; size = getD s 6 0; least = getD s 7 0; greatest = getD s 8 0; kinds = getD s 9 0 }
 
 -- the rows of a lent table. An unfinished row at the end is a row too: it lacks its set, so it fails the check.
 -- Each row takes a number or more, so the numbers that are left are count enough
@@ -74,14 +76,14 @@ unfoldable pub fresh : List ℕ → List ℕ → Bool
 fresh used [] = true
 fresh used (x ∷ xs) = not (among x used) && fresh (x ∷ used) xs
 
--- 1 to 4 IEIs, a form, a fixed size of 0 to 255, a least whole length of 0 to 65,538, a set of 1 to 65,535 for half octets and of 1
--- to 255 for others, the IEI rules
+-- 1 to 4 IEIs, a form, a fixed size of 0 to 255, a least whole length that is at most the greatest, which is at most 65,538, a set of
+-- 1 to 65,535 for half octets and of 1 to 255 for others, the IEI rules
 unfoldable pub goodRow : List ℕ → Row → Bool
 goodRow used r =
     leb 1 (r .count) && (leb (r .count) 4
     && (leb (r .code) 3 && ((not (eqb (r .code) 1) || leb (r .size) 255)
-    && (leb (r .least) 65538 && (leb 1 (r .kinds) && (leb (r .kinds) (mostKinds (ofHalf r))
-    && (allGood (ofHalf r) (ieis r) && fresh used (ieis r))))))))
+    && (leb (r .least) (r .greatest) && (leb (r .greatest) 65538 && (leb 1 (r .kinds) && (leb (r .kinds) (mostKinds (ofHalf r))
+    && (allGood (ofHalf r) (ieis r) && fresh used (ieis r)))))))))
 
 abbrev pub mostPlaces : ℕ
 mostPlaces = 128
@@ -111,7 +113,7 @@ unfoldable pub placeOf : List Row → ℕ → Option ℕ
 placeOf t iei = placeFrom 0 t iei
 
 abbrev pub noRow : Row
-noRow = record { count = 0; slots = []; code = 0; size = 0; least = 0; kinds = 0 }
+noRow = record { count = 0; slots = []; code = 0; size = 0; least = 0; greatest = 0; kinds = 0 }
 
 unfoldable pub rowAt : List Row → ℕ → Row
 rowAt [] k = noRow

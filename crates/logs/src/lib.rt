@@ -23,7 +23,7 @@ pub enum Kept {
 }
 
 // Whether an order log is malformed.
-fn order_malformed(order: &[u8]) -> bool
+pub fn order_malformed(order: &[u8]) -> bool
     ensures { λ r. ⌜ r ≡ isNone (orderList (now (order .entry))) ⌝ }
 {
     let mut at = 0;

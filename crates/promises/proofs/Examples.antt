@@ -86,7 +86,7 @@ really-changed = (
 
 -- what is lent: a row for each of the five places, two logs of twice the ten octets, room for set octets and output
 abbrev lent : Lent
-lent = record { rows = replicate 15 9; kept = replicate 20 9; order = replicate 20 9 }
+lent = record { rows = replicate 20 9; kept = replicate 20 9; order = replicate 20 9 }
 
 pub kept-example : Kept tableP startOf false elementsFirst changed lent (replicate 4 7) (replicate 12 7)
 unfolding concat among rowOf rowsF rowsOf ieis formOf form goodIei allGood fresh goodRow firstBadFrom firstBad row tableP

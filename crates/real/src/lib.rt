@@ -12,7 +12,7 @@ ghost use Rattle.rows.specs.Answers.{checkedAs, placeAs};
 ghost use Rattle.real.specs.Real.{realOf, realMandatoryOf};
 
 // Table P: five places.
-pub const TABLE_P: [u32; 45] = [
+pub const TABLE_P: [u32; 50] = [
     // place 0
     1,
     0xc0,
@@ -22,6 +22,7 @@ pub const TABLE_P: [u32; 45] = [
     0,
     0,
     0,
+    1,
     7,
     // place 1
     1,
@@ -32,6 +33,7 @@ pub const TABLE_P: [u32; 45] = [
     2,
     0,
     3,
+    257,
     255,
     // place 2
     1,
@@ -42,6 +44,7 @@ pub const TABLE_P: [u32; 45] = [
     1,
     2,
     0,
+    3,
     255,
     // place 3
     2,
@@ -52,6 +55,7 @@ pub const TABLE_P: [u32; 45] = [
     2,
     0,
     2,
+    257,
     7,
     // place 4
     1,
@@ -62,11 +66,12 @@ pub const TABLE_P: [u32; 45] = [
     3,
     0,
     3,
+    65_538,
     255,
 ];
 
 // Registration request, optional rows.
-pub const REGISTRATION_REQUEST: [u32; 288] = [
+pub const REGISTRATION_REQUEST: [u32; 320] = [
     // non-current native nas key set identifier, 9.11.3.32
     1,
     0xc0,
@@ -75,6 +80,7 @@ pub const REGISTRATION_REQUEST: [u32; 288] = [
     0,
     0,
     0,
+    1,
     1,
     65_535,
     // 5gmm capability, 9.11.3.1
@@ -86,6 +92,7 @@ pub const REGISTRATION_REQUEST: [u32; 288] = [
     2,
     0,
     3,
+    15,
     255,
     // ue security capability, 9.11.3.54
     1,
@@ -96,6 +103,7 @@ pub const REGISTRATION_REQUEST: [u32; 288] = [
     2,
     0,
     4,
+    10,
     255,
     // requested nssai, 9.11.3.37
     1,
@@ -106,6 +114,7 @@ pub const REGISTRATION_REQUEST: [u32; 288] = [
     2,
     0,
     4,
+    74,
     255,
     // last visited registered tai, 9.11.3.8
     1,
@@ -115,6 +124,7 @@ pub const REGISTRATION_REQUEST: [u32; 288] = [
     0,
     1,
     6,
+    7,
     7,
     255,
     // s1 ue network capability, 9.11.3.48
@@ -126,6 +136,7 @@ pub const REGISTRATION_REQUEST: [u32; 288] = [
     2,
     0,
     4,
+    15,
     255,
     // uplink data status, 9.11.3.57
     1,
@@ -136,6 +147,7 @@ pub const REGISTRATION_REQUEST: [u32; 288] = [
     2,
     0,
     4,
+    34,
     255,
     // pdu session status, 9.11.3.44
     1,
@@ -146,6 +158,7 @@ pub const REGISTRATION_REQUEST: [u32; 288] = [
     2,
     0,
     4,
+    34,
     255,
     // mico indication, 9.11.3.31
     1,
@@ -155,6 +168,7 @@ pub const REGISTRATION_REQUEST: [u32; 288] = [
     0,
     0,
     0,
+    1,
     1,
     65_535,
     // ue status, 9.11.3.56
@@ -166,6 +180,7 @@ pub const REGISTRATION_REQUEST: [u32; 288] = [
     2,
     0,
     3,
+    3,
     255,
     // additional guti, 9.11.3.4
     1,
@@ -175,6 +190,7 @@ pub const REGISTRATION_REQUEST: [u32; 288] = [
     0,
     3,
     0,
+    14,
     14,
     255,
     // allowed pdu session status, 9.11.3.13
@@ -186,6 +202,7 @@ pub const REGISTRATION_REQUEST: [u32; 288] = [
     2,
     0,
     4,
+    34,
     255,
     // ue's usage setting, 9.11.3.55
     1,
@@ -195,6 +212,7 @@ pub const REGISTRATION_REQUEST: [u32; 288] = [
     0,
     2,
     0,
+    3,
     3,
     255,
     // requested drx parameters, 9.11.3.2A
@@ -206,6 +224,7 @@ pub const REGISTRATION_REQUEST: [u32; 288] = [
     2,
     0,
     3,
+    3,
     255,
     // eps nas message container, 9.11.3.24
     1,
@@ -216,6 +235,7 @@ pub const REGISTRATION_REQUEST: [u32; 288] = [
     3,
     0,
     4,
+    65_538,
     255,
     // ladn indication, 9.11.3.29
     1,
@@ -226,6 +246,7 @@ pub const REGISTRATION_REQUEST: [u32; 288] = [
     3,
     0,
     3,
+    811,
     255,
     // payload container type, 9.11.3.40
     1,
@@ -235,6 +256,7 @@ pub const REGISTRATION_REQUEST: [u32; 288] = [
     0,
     0,
     0,
+    1,
     1,
     33_278,
     // payload container, 9.11.3.39
@@ -246,6 +268,7 @@ pub const REGISTRATION_REQUEST: [u32; 288] = [
     3,
     0,
     4,
+    65_538,
     255,
     // network slicing indication, 9.11.3.36
     1,
@@ -255,6 +278,7 @@ pub const REGISTRATION_REQUEST: [u32; 288] = [
     0,
     0,
     0,
+    1,
     1,
     65_535,
     // 5gs update type, 9.11.3.9A
@@ -266,6 +290,7 @@ pub const REGISTRATION_REQUEST: [u32; 288] = [
     2,
     0,
     3,
+    3,
     255,
     // mobile station classmark 2, 9.11.3.31C
     1,
@@ -275,6 +300,7 @@ pub const REGISTRATION_REQUEST: [u32; 288] = [
     0,
     2,
     0,
+    5,
     5,
     255,
     // supported codecs, 9.11.3.51A
@@ -286,6 +312,7 @@ pub const REGISTRATION_REQUEST: [u32; 288] = [
     2,
     0,
     5,
+    257,
     255,
     // nas message container, 9.11.3.33
     1,
@@ -296,6 +323,7 @@ pub const REGISTRATION_REQUEST: [u32; 288] = [
     3,
     0,
     4,
+    65_538,
     255,
     // eps bearer context status, 9.11.3.23A
     1,
@@ -305,6 +333,7 @@ pub const REGISTRATION_REQUEST: [u32; 288] = [
     0,
     2,
     0,
+    4,
     4,
     255,
     // requested extended drx parameters, 9.11.3.26A
@@ -316,6 +345,7 @@ pub const REGISTRATION_REQUEST: [u32; 288] = [
     2,
     0,
     3,
+    3,
     255,
     // t3324 value, 9.11.2.5
     1,
@@ -325,6 +355,7 @@ pub const REGISTRATION_REQUEST: [u32; 288] = [
     0,
     2,
     0,
+    3,
     3,
     255,
     // ue radio capability id, 9.11.3.68
@@ -336,6 +367,7 @@ pub const REGISTRATION_REQUEST: [u32; 288] = [
     2,
     0,
     3,
+    257,
     255,
     // requested mapped nssai, 9.11.3.31B
     1,
@@ -346,6 +378,7 @@ pub const REGISTRATION_REQUEST: [u32; 288] = [
     2,
     0,
     3,
+    42,
     255,
     // additional information requested, 9.11.3.12A
     1,
@@ -355,6 +388,7 @@ pub const REGISTRATION_REQUEST: [u32; 288] = [
     0,
     2,
     0,
+    3,
     3,
     255,
     // requested wus assistance information, 9.11.3.71
@@ -366,6 +400,7 @@ pub const REGISTRATION_REQUEST: [u32; 288] = [
     2,
     0,
     3,
+    257,
     255,
     // n5gc indication, 9.11.3.72
     1,
@@ -376,6 +411,7 @@ pub const REGISTRATION_REQUEST: [u32; 288] = [
     0,
     0,
     1,
+    1,
     65_535,
     // requested nb-n1 mode drx parameters, 9.11.3.73
     1,
@@ -385,6 +421,7 @@ pub const REGISTRATION_REQUEST: [u32; 288] = [
     0,
     2,
     0,
+    3,
     3,
     255,
 ];
@@ -409,7 +446,7 @@ pub const REGISTRATION_REQUEST_MANDATORY: [u32; 12] = [
 ];
 
 // Registration accept, optional rows.
-pub const REGISTRATION_ACCEPT: [u32; 351] = [
+pub const REGISTRATION_ACCEPT: [u32; 390] = [
     // 5g-guti, 9.11.3.4
     1,
     0x77,
@@ -418,6 +455,7 @@ pub const REGISTRATION_ACCEPT: [u32; 351] = [
     0,
     3,
     0,
+    14,
     14,
     255,
     // equivalent plmns, 9.11.3.45
@@ -429,6 +467,7 @@ pub const REGISTRATION_ACCEPT: [u32; 351] = [
     2,
     0,
     5,
+    47,
     255,
     // tai list, 9.11.3.9
     1,
@@ -439,6 +478,7 @@ pub const REGISTRATION_ACCEPT: [u32; 351] = [
     2,
     0,
     9,
+    114,
     255,
     // allowed nssai, 9.11.3.37
     1,
@@ -449,6 +489,7 @@ pub const REGISTRATION_ACCEPT: [u32; 351] = [
     2,
     0,
     4,
+    74,
     255,
     // rejected nssai, 9.11.3.46
     1,
@@ -459,6 +500,7 @@ pub const REGISTRATION_ACCEPT: [u32; 351] = [
     2,
     0,
     4,
+    42,
     255,
     // configured nssai, 9.11.3.37
     1,
@@ -469,6 +511,7 @@ pub const REGISTRATION_ACCEPT: [u32; 351] = [
     2,
     0,
     4,
+    146,
     255,
     // 5gs network feature support, 9.11.3.5
     1,
@@ -479,6 +522,7 @@ pub const REGISTRATION_ACCEPT: [u32; 351] = [
     2,
     0,
     3,
+    5,
     255,
     // pdu session status, 9.11.3.44
     1,
@@ -489,6 +533,7 @@ pub const REGISTRATION_ACCEPT: [u32; 351] = [
     2,
     0,
     4,
+    34,
     255,
     // pdu session reactivation result, 9.11.3.42
     1,
@@ -499,6 +544,7 @@ pub const REGISTRATION_ACCEPT: [u32; 351] = [
     2,
     0,
     4,
+    34,
     255,
     // pdu session reactivation result error cause, 9.11.3.43
     1,
@@ -509,6 +555,7 @@ pub const REGISTRATION_ACCEPT: [u32; 351] = [
     3,
     0,
     5,
+    515,
     255,
     // ladn information, 9.11.3.30
     1,
@@ -519,6 +566,7 @@ pub const REGISTRATION_ACCEPT: [u32; 351] = [
     3,
     0,
     12,
+    1715,
     255,
     // mico indication, 9.11.3.31
     1,
@@ -528,6 +576,7 @@ pub const REGISTRATION_ACCEPT: [u32; 351] = [
     0,
     0,
     0,
+    1,
     1,
     65_535,
     // network slicing indication, 9.11.3.36
@@ -539,6 +588,7 @@ pub const REGISTRATION_ACCEPT: [u32; 351] = [
     0,
     0,
     1,
+    1,
     65_535,
     // service area list, 9.11.3.49
     1,
@@ -549,6 +599,7 @@ pub const REGISTRATION_ACCEPT: [u32; 351] = [
     2,
     0,
     6,
+    114,
     255,
     // t3512 value, 9.11.2.5
     1,
@@ -558,6 +609,7 @@ pub const REGISTRATION_ACCEPT: [u32; 351] = [
     0,
     2,
     0,
+    3,
     3,
     255,
     // non-3gpp de-registration timer value, 9.11.2.4
@@ -569,6 +621,7 @@ pub const REGISTRATION_ACCEPT: [u32; 351] = [
     2,
     0,
     3,
+    3,
     255,
     // t3502 value, 9.11.2.4
     1,
@@ -578,6 +631,7 @@ pub const REGISTRATION_ACCEPT: [u32; 351] = [
     0,
     2,
     0,
+    3,
     3,
     255,
     // emergency number list, 9.11.3.23
@@ -589,6 +643,7 @@ pub const REGISTRATION_ACCEPT: [u32; 351] = [
     2,
     0,
     5,
+    50,
     255,
     // extended emergency number list, 9.11.3.26
     1,
@@ -599,6 +654,7 @@ pub const REGISTRATION_ACCEPT: [u32; 351] = [
     3,
     0,
     7,
+    65_538,
     255,
     // sor transparent container, 9.11.3.51
     1,
@@ -609,6 +665,7 @@ pub const REGISTRATION_ACCEPT: [u32; 351] = [
     3,
     0,
     20,
+    65_538,
     255,
     // eap message, 9.11.2.2
     1,
@@ -619,6 +676,7 @@ pub const REGISTRATION_ACCEPT: [u32; 351] = [
     3,
     0,
     7,
+    1503,
     255,
     // nssai inclusion mode, 9.11.3.37A
     1,
@@ -628,6 +686,7 @@ pub const REGISTRATION_ACCEPT: [u32; 351] = [
     0,
     0,
     0,
+    1,
     1,
     65_535,
     // operator-defined access category definitions, 9.11.3.38
@@ -639,6 +698,7 @@ pub const REGISTRATION_ACCEPT: [u32; 351] = [
     3,
     0,
     3,
+    8323,
     255,
     // negotiated drx parameters, 9.11.3.2A
     1,
@@ -648,6 +708,7 @@ pub const REGISTRATION_ACCEPT: [u32; 351] = [
     0,
     2,
     0,
+    3,
     3,
     255,
     // non-3gpp nw policies, 9.11.3.36A
@@ -659,6 +720,7 @@ pub const REGISTRATION_ACCEPT: [u32; 351] = [
     0,
     0,
     1,
+    1,
     65_535,
     // eps bearer context status, 9.11.3.23A
     1,
@@ -668,6 +730,7 @@ pub const REGISTRATION_ACCEPT: [u32; 351] = [
     0,
     2,
     0,
+    4,
     4,
     255,
     // negotiated extended drx parameters, 9.11.3.26A
@@ -679,6 +742,7 @@ pub const REGISTRATION_ACCEPT: [u32; 351] = [
     2,
     0,
     3,
+    3,
     255,
     // t3447 value, 9.11.2.5
     1,
@@ -688,6 +752,7 @@ pub const REGISTRATION_ACCEPT: [u32; 351] = [
     0,
     2,
     0,
+    3,
     3,
     255,
     // t3448 value, 9.11.2.4
@@ -699,6 +764,7 @@ pub const REGISTRATION_ACCEPT: [u32; 351] = [
     2,
     0,
     3,
+    3,
     255,
     // t3324 value, 9.11.2.5
     1,
@@ -708,6 +774,7 @@ pub const REGISTRATION_ACCEPT: [u32; 351] = [
     0,
     2,
     0,
+    3,
     3,
     255,
     // ue radio capability id, 9.11.3.68
@@ -719,6 +786,7 @@ pub const REGISTRATION_ACCEPT: [u32; 351] = [
     2,
     0,
     3,
+    257,
     255,
     // ue radio capability id deletion indication, 9.11.3.69
     1,
@@ -728,6 +796,7 @@ pub const REGISTRATION_ACCEPT: [u32; 351] = [
     0,
     0,
     0,
+    1,
     1,
     65_535,
     // pending nssai, 9.11.3.37
@@ -739,6 +808,7 @@ pub const REGISTRATION_ACCEPT: [u32; 351] = [
     2,
     0,
     4,
+    146,
     255,
     // ciphering key data, 9.11.3.18C
     1,
@@ -749,6 +819,7 @@ pub const REGISTRATION_ACCEPT: [u32; 351] = [
     3,
     0,
     34,
+    65_538,
     255,
     // cag information list, 9.11.3.18A
     1,
@@ -759,6 +830,7 @@ pub const REGISTRATION_ACCEPT: [u32; 351] = [
     3,
     0,
     3,
+    65_538,
     255,
     // truncated 5g-s-tmsi configuration, 9.11.3.70
     1,
@@ -768,6 +840,7 @@ pub const REGISTRATION_ACCEPT: [u32; 351] = [
     0,
     2,
     0,
+    3,
     3,
     255,
     // negotiated wus assistance information, 9.11.3.71
@@ -779,6 +852,7 @@ pub const REGISTRATION_ACCEPT: [u32; 351] = [
     2,
     0,
     3,
+    257,
     255,
     // negotiated nb-n1 mode drx parameters, 9.11.3.73
     1,
@@ -788,6 +862,7 @@ pub const REGISTRATION_ACCEPT: [u32; 351] = [
     0,
     2,
     0,
+    3,
     3,
     255,
     // extended rejected nssai, 9.11.3.75
@@ -799,6 +874,7 @@ pub const REGISTRATION_ACCEPT: [u32; 351] = [
     2,
     0,
     4,
+    74,
     255,
 ];
 
@@ -812,7 +888,7 @@ pub const REGISTRATION_ACCEPT_MANDATORY: [u32; 4] = [
 ];
 
 // Registration reject, optional rows.
-pub const REGISTRATION_REJECT: [u32; 54] = [
+pub const REGISTRATION_REJECT: [u32; 60] = [
     // t3346 value, 9.11.2.4
     1,
     0x5f,
@@ -821,6 +897,7 @@ pub const REGISTRATION_REJECT: [u32; 54] = [
     0,
     2,
     0,
+    3,
     3,
     255,
     // t3502 value, 9.11.2.4
@@ -832,6 +909,7 @@ pub const REGISTRATION_REJECT: [u32; 54] = [
     2,
     0,
     3,
+    3,
     255,
     // eap message, 9.11.2.2
     1,
@@ -842,6 +920,7 @@ pub const REGISTRATION_REJECT: [u32; 54] = [
     3,
     0,
     7,
+    1503,
     255,
     // rejected nssai, 9.11.3.46
     1,
@@ -852,6 +931,7 @@ pub const REGISTRATION_REJECT: [u32; 54] = [
     2,
     0,
     4,
+    42,
     255,
     // cag information list, 9.11.3.18A
     1,
@@ -862,6 +942,7 @@ pub const REGISTRATION_REJECT: [u32; 54] = [
     3,
     0,
     3,
+    65_538,
     255,
     // extended rejected nssai, 9.11.3.75
     1,
@@ -872,6 +953,7 @@ pub const REGISTRATION_REJECT: [u32; 54] = [
     2,
     0,
     4,
+    74,
     255,
 ];
 
@@ -885,7 +967,7 @@ pub const REGISTRATION_REJECT_MANDATORY: [u32; 4] = [
 ];
 
 // Service request, optional rows.
-pub const SERVICE_REQUEST: [u32; 36] = [
+pub const SERVICE_REQUEST: [u32; 40] = [
     // uplink data status, 9.11.3.57
     1,
     0x40,
@@ -895,6 +977,7 @@ pub const SERVICE_REQUEST: [u32; 36] = [
     2,
     0,
     4,
+    34,
     255,
     // pdu session status, 9.11.3.44
     1,
@@ -905,6 +988,7 @@ pub const SERVICE_REQUEST: [u32; 36] = [
     2,
     0,
     4,
+    34,
     255,
     // allowed pdu session status, 9.11.3.13
     1,
@@ -915,6 +999,7 @@ pub const SERVICE_REQUEST: [u32; 36] = [
     2,
     0,
     4,
+    34,
     255,
     // nas message container, 9.11.3.33
     1,
@@ -925,6 +1010,7 @@ pub const SERVICE_REQUEST: [u32; 36] = [
     3,
     0,
     4,
+    65_538,
     255,
 ];
 
@@ -948,7 +1034,7 @@ pub const SERVICE_REQUEST_MANDATORY: [u32; 12] = [
 ];
 
 // PDU session establishment request, optional rows.
-pub const PDU_SESSION_ESTABLISHMENT_REQUEST: [u32; 117] = [
+pub const PDU_SESSION_ESTABLISHMENT_REQUEST: [u32; 130] = [
     // pdu session type, 9.11.4.11
     1,
     0x90,
@@ -957,6 +1043,7 @@ pub const PDU_SESSION_ESTABLISHMENT_REQUEST: [u32; 117] = [
     0,
     0,
     0,
+    1,
     1,
     32_639,
     // ssc mode, 9.11.4.16
@@ -968,6 +1055,7 @@ pub const PDU_SESSION_ESTABLISHMENT_REQUEST: [u32; 117] = [
     0,
     0,
     1,
+    1,
     32_382,
     // 5gsm capability, 9.11.4.1
     1,
@@ -978,6 +1066,7 @@ pub const PDU_SESSION_ESTABLISHMENT_REQUEST: [u32; 117] = [
     2,
     0,
     3,
+    15,
     255,
     // maximum number of supported packet filters, 9.11.4.9
     1,
@@ -988,6 +1077,7 @@ pub const PDU_SESSION_ESTABLISHMENT_REQUEST: [u32; 117] = [
     1,
     2,
     3,
+    3,
     255,
     // always-on pdu session requested, 9.11.4.4
     1,
@@ -997,6 +1087,7 @@ pub const PDU_SESSION_ESTABLISHMENT_REQUEST: [u32; 117] = [
     0,
     0,
     0,
+    1,
     1,
     65_535,
     // sm pdu dn request container, 9.11.4.15
@@ -1009,6 +1100,7 @@ pub const PDU_SESSION_ESTABLISHMENT_REQUEST: [u32; 117] = [
     0,
     3,
     255,
+    255,
     // extended protocol configuration options, 9.11.4.6
     1,
     0x7b,
@@ -1018,6 +1110,7 @@ pub const PDU_SESSION_ESTABLISHMENT_REQUEST: [u32; 117] = [
     3,
     0,
     4,
+    65_538,
     255,
     // ip header compression configuration, 9.11.4.24
     1,
@@ -1028,6 +1121,7 @@ pub const PDU_SESSION_ESTABLISHMENT_REQUEST: [u32; 117] = [
     2,
     0,
     5,
+    257,
     255,
     // ds-tt ethernet port mac address, 9.11.4.25
     1,
@@ -1037,6 +1131,7 @@ pub const PDU_SESSION_ESTABLISHMENT_REQUEST: [u32; 117] = [
     0,
     2,
     0,
+    8,
     8,
     255,
     // ue-ds-tt residence time, 9.11.4.26
@@ -1048,6 +1143,7 @@ pub const PDU_SESSION_ESTABLISHMENT_REQUEST: [u32; 117] = [
     2,
     0,
     10,
+    10,
     255,
     // port management information container, 9.11.4.27
     1,
@@ -1058,6 +1154,7 @@ pub const PDU_SESSION_ESTABLISHMENT_REQUEST: [u32; 117] = [
     3,
     0,
     8,
+    65_538,
     255,
     // ethernet header compression configuration, 9.11.4.28
     1,
@@ -1068,6 +1165,7 @@ pub const PDU_SESSION_ESTABLISHMENT_REQUEST: [u32; 117] = [
     2,
     0,
     3,
+    3,
     255,
     // suggested interface identifier, 9.11.4.10
     1,
@@ -1077,6 +1175,7 @@ pub const PDU_SESSION_ESTABLISHMENT_REQUEST: [u32; 117] = [
     0,
     2,
     0,
+    11,
     11,
     255,
 ];
@@ -1091,7 +1190,7 @@ pub const PDU_SESSION_ESTABLISHMENT_REQUEST_MANDATORY: [u32; 4] = [
 ];
 
 // PDU session establishment accept, optional rows.
-pub const PDU_SESSION_ESTABLISHMENT_ACCEPT: [u32; 144] = [
+pub const PDU_SESSION_ESTABLISHMENT_ACCEPT: [u32; 160] = [
     // 5gsm cause, 9.11.4.2
     1,
     0x59,
@@ -1100,6 +1199,7 @@ pub const PDU_SESSION_ESTABLISHMENT_ACCEPT: [u32; 144] = [
     0,
     1,
     1,
+    2,
     2,
     255,
     // pdu address, 9.11.4.10
@@ -1111,6 +1211,7 @@ pub const PDU_SESSION_ESTABLISHMENT_ACCEPT: [u32; 144] = [
     2,
     0,
     7,
+    31,
     255,
     // rq timer value, 9.11.2.3
     1,
@@ -1120,6 +1221,7 @@ pub const PDU_SESSION_ESTABLISHMENT_ACCEPT: [u32; 144] = [
     0,
     1,
     1,
+    2,
     2,
     255,
     // s-nssai, 9.11.2.8
@@ -1131,6 +1233,7 @@ pub const PDU_SESSION_ESTABLISHMENT_ACCEPT: [u32; 144] = [
     2,
     0,
     3,
+    10,
     255,
     // always-on pdu session indication, 9.11.4.3
     1,
@@ -1140,6 +1243,7 @@ pub const PDU_SESSION_ESTABLISHMENT_ACCEPT: [u32; 144] = [
     0,
     0,
     0,
+    1,
     1,
     65_535,
     // mapped eps bearer contexts, 9.11.4.8
@@ -1151,6 +1255,7 @@ pub const PDU_SESSION_ESTABLISHMENT_ACCEPT: [u32; 144] = [
     3,
     0,
     7,
+    65_538,
     255,
     // eap message, 9.11.2.2
     1,
@@ -1161,6 +1266,7 @@ pub const PDU_SESSION_ESTABLISHMENT_ACCEPT: [u32; 144] = [
     3,
     0,
     7,
+    1503,
     255,
     // authorized qos flow descriptions, 9.11.4.12
     1,
@@ -1171,6 +1277,7 @@ pub const PDU_SESSION_ESTABLISHMENT_ACCEPT: [u32; 144] = [
     3,
     0,
     6,
+    65_538,
     255,
     // extended protocol configuration options, 9.11.4.6
     1,
@@ -1181,6 +1288,7 @@ pub const PDU_SESSION_ESTABLISHMENT_ACCEPT: [u32; 144] = [
     3,
     0,
     4,
+    65_538,
     255,
     // dnn, 9.11.2.1B
     1,
@@ -1191,6 +1299,7 @@ pub const PDU_SESSION_ESTABLISHMENT_ACCEPT: [u32; 144] = [
     2,
     0,
     3,
+    102,
     255,
     // 5gsm network feature support, 9.11.4.18
     1,
@@ -1201,6 +1310,7 @@ pub const PDU_SESSION_ESTABLISHMENT_ACCEPT: [u32; 144] = [
     2,
     0,
     3,
+    15,
     255,
     // serving plmn rate control, 9.11.4.20
     1,
@@ -1210,6 +1320,7 @@ pub const PDU_SESSION_ESTABLISHMENT_ACCEPT: [u32; 144] = [
     0,
     2,
     0,
+    4,
     4,
     255,
     // atsss container, 9.11.4.22
@@ -1221,6 +1332,7 @@ pub const PDU_SESSION_ESTABLISHMENT_ACCEPT: [u32; 144] = [
     3,
     0,
     3,
+    65_538,
     255,
     // control plane only indication, 9.11.4.23
     1,
@@ -1230,6 +1342,7 @@ pub const PDU_SESSION_ESTABLISHMENT_ACCEPT: [u32; 144] = [
     0,
     0,
     0,
+    1,
     1,
     43_690,
     // ip header compression configuration, 9.11.4.24
@@ -1241,6 +1354,7 @@ pub const PDU_SESSION_ESTABLISHMENT_ACCEPT: [u32; 144] = [
     2,
     0,
     5,
+    257,
     255,
     // ethernet header compression configuration, 9.11.4.28
     1,
@@ -1250,6 +1364,7 @@ pub const PDU_SESSION_ESTABLISHMENT_ACCEPT: [u32; 144] = [
     0,
     2,
     0,
+    3,
     3,
     255,
 ];
@@ -3260,7 +3375,7 @@ pub fn place_real(number: usize, iei: u8) -> Place
 
 // ---- by name: each table and its index as a value, told by the definitions, so that a caller need not look at its numbers
 
-pub fn table_p() -> [u32; 45]
+pub fn table_p() -> [u32; 50]
     ensures { λ r. ⌜ r ≡ realOf 0 ⌝ }
 {
     TABLE_P
@@ -3272,7 +3387,7 @@ pub fn index_p() -> [u8; 256]
     INDEX_P
 }
 
-pub fn registration_request() -> [u32; 288]
+pub fn registration_request() -> [u32; 320]
     ensures { λ r. ⌜ r ≡ realOf 1 ⌝ }
 {
     REGISTRATION_REQUEST
@@ -3284,7 +3399,7 @@ pub fn index_registration_request() -> [u8; 256]
     INDEX_REGISTRATION_REQUEST
 }
 
-pub fn registration_accept() -> [u32; 351]
+pub fn registration_accept() -> [u32; 390]
     ensures { λ r. ⌜ r ≡ realOf 2 ⌝ }
 {
     REGISTRATION_ACCEPT
@@ -3296,7 +3411,7 @@ pub fn index_registration_accept() -> [u8; 256]
     INDEX_REGISTRATION_ACCEPT
 }
 
-pub fn registration_reject() -> [u32; 54]
+pub fn registration_reject() -> [u32; 60]
     ensures { λ r. ⌜ r ≡ realOf 3 ⌝ }
 {
     REGISTRATION_REJECT
@@ -3308,7 +3423,7 @@ pub fn index_registration_reject() -> [u8; 256]
     INDEX_REGISTRATION_REJECT
 }
 
-pub fn service_request() -> [u32; 36]
+pub fn service_request() -> [u32; 40]
     ensures { λ r. ⌜ r ≡ realOf 4 ⌝ }
 {
     SERVICE_REQUEST
@@ -3320,7 +3435,7 @@ pub fn index_service_request() -> [u8; 256]
     INDEX_SERVICE_REQUEST
 }
 
-pub fn pdu_session_establishment_request() -> [u32; 117]
+pub fn pdu_session_establishment_request() -> [u32; 130]
     ensures { λ r. ⌜ r ≡ realOf 5 ⌝ }
 {
     PDU_SESSION_ESTABLISHMENT_REQUEST
@@ -3332,7 +3447,7 @@ pub fn index_pdu_session_establishment_request() -> [u8; 256]
     INDEX_PDU_SESSION_ESTABLISHMENT_REQUEST
 }
 
-pub fn pdu_session_establishment_accept() -> [u32; 144]
+pub fn pdu_session_establishment_accept() -> [u32; 160]
     ensures { λ r. ⌜ r ≡ realOf 6 ⌝ }
 {
     PDU_SESSION_ESTABLISHMENT_ACCEPT

@@ -132,9 +132,13 @@ row-passes : (k : ℕ) (r : Row) (ix used : List ℕ) → k < 128 → Marks ix u
 unfolding passes inRange ieisPass goodRow
 row-passes k r ix used h m =
     rw (enters-fresh (eqb (r .code) 0) (markOf k) (ieis r) ix used (omega arith) m)
-    (sort (leb 1 (r .count)) (leb (r .count) 4) (leb (r .code) 3) (not (eqb (r .code) 1) || leb (r .size) 255) (leb (r .least) 65538)
-    (leb 1 (r .kinds)) (leb (r .kinds) (mostKinds (ofHalf r))) (allGood (eqb (r .code) 0) (ieis r) && fresh used (ieis r)))
+    (sort (leb 1 (r .count)) (leb (r .count) 4) (leb (r .code) 3) sized (leb (r .least) (r .greatest) && leb (r .greatest) 65538)
+    (leb 1 (r .kinds)) (leb (r .kinds) (mostKinds (ofHalf r))) (allGood (eqb (r .code) 0) (ieis r) && fresh used (ieis r))
+    ∙ ap (λ (x : Bool). leb 1 (r .count) && (leb (r .count) 4 && (leb (r .code) 3 && (sized && x)))) (and-assoc (leb (r .least) (r .greatest)) (leb (r .greatest) 65538) _))
   where
+    sized : Bool
+    sized = not (eqb (r .code) 1) || leb (r .size) 255
+
     front : (x a b h : Bool) → (x && (a && (b && h))) ≡ (a && (b && (x && h)))
     front true a b h = refl
     front false false b h = refl

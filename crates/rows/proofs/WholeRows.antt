@@ -1,54 +1,22 @@
 -- A table that passes its check has every row whole: a row that is not has no set of kinds, which fails.
 -- By the first bad row, row by row; past the last row all numbers are 0 on both sides.
-use Prim.Native.Nat.{ℕ, zero, suc, _+_, _*_, _/_, _≤_, _<_}
+use Prim.Native.Nat.{ℕ, zero, suc, _*_, _/_, _≤_, _<_}
 use native.Mathlib.Omega.{arith}
 use mathlib.Core.Path.{_≡_, refl, ap, sym, _∙_}
-use mathlib.Core.List.{List, [], _∷_, _++_}
-use mathlib.Core.Bool.{Bool, true, false, _&&_, _||_, not, and-true, false≢true}
-use mathlib.Core.Option.{none, some}
-use borrow.Author.Tests.{lt-ltb, le-ltb, ltb-true, ltb-false, leb-true, le-leb, lt-leb}
+use mathlib.Core.List.{List, [], _∷_}
+use mathlib.Core.Bool.{Bool, true, false, _&&_, not, and-true, false≢true}
+use mathlib.Core.Option.{none}
+use borrow.Author.Tests.{lt-ltb, le-ltb, ltb-true, ltb-false, le-leb, lt-leb}
 use lib.ListN.{length, getD, drop, length-take}
 use lib.Seq.{getD-drop, getD-take}
-use lib.Dec.{ltb, leb, eqb, lit<}
-use Rattle.definitions.specs.Basic.{pick, mostKinds}
-use Rattle.definitions.specs.Rows.{Row, rowOf, rowsOf, rowAt, ieis, ofHalf, firstIei, goodIei, allGood, fresh, goodRow, mostPlaces, firstBadFrom, firstBad, noRow}
-use Rattle.definitions.proofs.RowLaws.{both}
+use lib.Dec.{ltb, eqb, lit<}
+use Rattle.definitions.specs.Basic.{pick}
+use Rattle.definitions.specs.Rows.{Row, rowOf, rowsOf, rowAt, ieis, firstIei, goodIei, firstBad, noRow}
+use Rattle.definitions.proofs.RowLaws.{Passes, passes as rows-pass}
 use Rattle.definitions.proofs.TableLaws.{past, row-at, iei-at, iei-count, count-is, row-count}
 use Rattle.rows.specs.Marks.{free, enter, enterAll, enters, markOf, enterRow, inRange, ieisPass, passes}
 use Rattle.rows.specs.Numbers.{numbersOf, noNumbers, numbersAt, Whole}
 use Rattle.rows.specs.declared.columns.Numbers.{Numbers}
-
--- a good row lists an IEI and has a kind
-record Good (r : Row) : Type 0 where
-  listed : 1 ≤ r .count
-  kind : 1 ≤ r .kinds
-
-row-good : (used : List ℕ) (r : Row) → goodRow used r ≡ true → Good r
-unfolding goodRow
-row-good used r h =
-    by (leb 1 (r .count)) (leb (r .count) 4) (leb (r .code) 3) (not (eqb (r .code) 1) || leb (r .size) 255) (leb (r .least) 65538) (leb 1 (r .kinds))
-    (leb (r .kinds) (mostKinds (ofHalf r)) && (allGood (eqb (r .code) 0) (ieis r) && fresh used (ieis r))) refl refl h
-  where
-    by : (a b c d e f g : Bool) → leb 1 (r .count) ≡ a → leb 1 (r .kinds) ≡ f → (a && (b && (c && (d && (e && (f && g)))))) ≡ true → Good r
-    by false b c d e f g p q h = absurd (false≢true h)
-    by true false c d e f g p q h = absurd (false≢true h)
-    by true true false d e f g p q h = absurd (false≢true h)
-    by true true true false e f g p q h = absurd (false≢true h)
-    by true true true true false f g p q h = absurd (false≢true h)
-    by true true true true true false g p q h = absurd (false≢true h)
-    by true true true true true true g p q h = record { listed = leb-true 1 (r .count) p; kind = leb-true 1 (r .kinds) q }
-
-good-from : (j : ℕ) (used : List ℕ) (t : List Row) (k : ℕ) → firstBadFrom j used t ≡ none → k < length t → Good (rowAt t k)
-unfolding firstBadFrom rowAt
-good-from j used [] k p h = absurd (omega arith)
-good-from j used (r ∷ rs) k p h = go (ltb j mostPlaces && goodRow used r) refl p k h (good-from (suc j) (ieis r ++ used) rs)
-  where
-    go : (b : Bool) → (ltb j mostPlaces && goodRow used r) ≡ b → pick b (firstBadFrom (suc j) (ieis r ++ used) rs) (some j) ≡ none
-        → (k : ℕ) → k < length (r ∷ rs)
-        → ((k : ℕ) → firstBadFrom (suc j) (ieis r ++ used) rs ≡ none → k < length rs → Good (rowAt rs k)) → Good (rowAt (r ∷ rs) k)
-    go false e p k h n = let z : _≡_ {A = ℕ} 0 1 = cc in absurd (omega arith)
-    go true e p zero h n = row-good used r (both (ltb j mostPlaces) (goodRow used r) e .1)
-    go true e p (suc k) h n = n k p (omega arith)
 
 row-past : (t : List Row) (k : ℕ) → length t ≤ k → rowAt t k ≡ noRow
 unfolding rowAt
@@ -60,20 +28,19 @@ module _ (table : List ℕ) (passes : firstBad (rowsOf table) ≡ none) where
   abbrev t : List Row
   t = rowsOf table
 
-  good : (k : ℕ) → k < length t → Good (rowAt t k)
-  unfolding firstBad
-  good k h = good-from 0 [] t k passes h
+  good : (k : ℕ) → k < length t → Passes (rowAt t k)
+  good k h = rows-pass t k passes h
 
   -- a row of the table is whole
-  inside : (k : ℕ) → k < length t → k < length table / 9
+  inside : (k : ℕ) → k < length t → k < length table / 10
   unfolding rowOf
-  inside k h = by (ltb k (length table / 9)) refl
+  inside k h = by (ltb k (length table / 10)) refl
     where
-      by : (b : Bool) → ltb k (length table / 9) ≡ b → k < length table / 9
-      by true e = ltb-true k (length table / 9) e
+      by : (b : Bool) → ltb k (length table / 10) ≡ b → k < length table / 10
+      by true e = ltb-true k (length table / 10) e
       by false e =
-          let o = ltb-false k (length table / 9) e in
-          let z : rowAt t k .kinds ≡ 0 = ap (λ (r : Row). r .kinds) (row-at table k) ∙ past (9 * k) table 8 (omega arith) in
+          let o = ltb-false k (length table / 10) e in
+          let z : rowAt t k .kinds ≡ 0 = ap (λ (r : Row). r .kinds) (row-at table k) ∙ past (10 * k) table 9 (omega arith) in
           absurd (omega (arith, good k h .kind))
 
   -- the numbers of a row, as the definitions have them
@@ -83,6 +50,7 @@ module _ (table : List ℕ) (passes : firstBad (rowsOf table) ≡ none) where
     code : numbersAt table k .code ≡ rowAt t k .code
     size : numbersAt table k .size ≡ rowAt t k .size
     least : numbersAt table k .least ≡ rowAt t k .least
+    greatest : numbersAt table k .greatest ≡ rowAt t k .greatest
     kinds : numbersAt table k .kinds ≡ rowAt t k .kinds
 
   same : (k : ℕ) → Same k
@@ -92,21 +60,22 @@ module _ (table : List ℕ) (passes : firstBad (rowsOf table) ≡ none) where
       by : (b : Bool) → ltb k (length t) ≡ b → Same k
       by true e =
           let h = ltb-true k (length t) e in
-          let w = lt-ltb k (length table / 9) (inside k h) in
-          let c : 0 < getD table (9 * k) 0 = omega (arith, good k h .listed, count-is table k) in
+          let w = lt-ltb k (length table / 10) (inside k h) in
+          let c : 0 < getD table (10 * k) 0 = omega (arith, good k h .listing, count-is table k) in
           record {
             count = rw (w, row-at table k);
-            first = rw w (getD-drop (9 * k) table 1 0 ∙ sym (iei-at table k 0 c (lit< tt)));
+            first = rw w (getD-drop (10 * k) table 1 0 ∙ sym (iei-at table k 0 c (lit< tt)));
             code = rw (w, row-at table k);
             size = rw (w, row-at table k);
             least = rw (w, row-at table k);
+            greatest = rw (w, row-at table k);
             kinds = rw (w, row-at table k);
           }
       by false e =
           let h = ltb-false k (length t) e in
-          let w = le-ltb k (length table / 9) (omega (arith, row-count table)) in
+          let w = le-ltb k (length table / 10) (omega (arith, row-count table)) in
           let r = row-past t k h in
-          record { count = rw (w, r); first = rw (w, r); code = rw (w, r); size = rw (w, r); least = rw (w, r); kinds = rw (w, r) }
+          record { count = rw (w, r); first = rw (w, r); code = rw (w, r); size = rw (w, r); least = rw (w, r); greatest = rw (w, r); kinds = rw (w, r) }
 
   pub whole-rows : Whole table
   whole-rows =
@@ -116,6 +85,7 @@ module _ (table : List ℕ) (passes : firstBad (rowsOf table) ≡ none) where
         code = λ k. same k .code;
         size = λ k. same k .size;
         least = λ k. same k .least;
+        greatest = λ k. same k .greatest;
         kinds = λ k. same k .kinds;
       }
 
@@ -127,7 +97,7 @@ single (x ∷ []) e = refl
 single (x ∷ y ∷ l) e = absurd (omega arith)
 
 abbrev pub rangeOf : Numbers → Bool
-rangeOf n = inRange (n .code) (n .size) (n .least) (n .kinds)
+rangeOf n = inRange (n .code) (n .size) (n .least) (n .greatest) (n .kinds)
 
 -- the check of a row by its numbers taken at once
 module _ (table ix : List ℕ) (k : ℕ) (n : Numbers) (e : n ≡ numbersAt table k) where
@@ -135,15 +105,15 @@ module _ (table ix : List ℕ) (k : ℕ) (n : Numbers) (e : n ≡ numbersAt tabl
   row = rowAt (rowsOf table) k
 
   -- a row that is not whole has no kind, and is out of range either way
-  range-by : rangeOf n ≡ inRange (row .code) (row .size) (row .least) (row .kinds)
+  range-by : rangeOf n ≡ inRange (row .code) (row .size) (row .least) (row .greatest) (row .kinds)
   unfolding numbersAt inRange rowOf
-  range-by = rw e (by (ltb k (length table / 9)) refl)
+  range-by = rw e (by (ltb k (length table / 10)) refl)
     where
-      by : (b : Bool) → ltb k (length table / 9) ≡ b → rangeOf (pick b (numbersOf (drop (9 * k) table)) noNumbers) ≡ inRange (row .code) (row .size) (row .least) (row .kinds)
+      by : (b : Bool) → ltb k (length table / 10) ≡ b → rangeOf (pick b (numbersOf (drop (10 * k) table)) noNumbers) ≡ inRange (row .code) (row .size) (row .least) (row .greatest) (row .kinds)
       by true f = rw (row-at table k)
       by false f =
-          let h = ltb-false k (length table / 9) f in
-          let z : row .kinds ≡ 0 = ap (λ (r : Row). r .kinds) (row-at table k) ∙ past (9 * k) table 8 (omega arith) in
+          let h = ltb-false k (length table / 10) f in
+          let z : row .kinds ≡ 0 = ap (λ (r : Row). r .kinds) (row-at table k) ∙ past (10 * k) table 9 (omega arith) in
           rw z
 
   pub out-of-range : rangeOf n ≡ false → passes k row ix ≡ false
@@ -151,17 +121,17 @@ module _ (table ix : List ℕ) (k : ℕ) (n : Numbers) (e : n ≡ numbersAt tabl
   out-of-range p = rw (sym range-by ∙ p)
 
   module _ (p : rangeOf n ≡ true) where
-    here : k < length table / 9
+    here : k < length table / 10
     unfolding numbersAt inRange
-    here = by (ltb k (length table / 9)) refl (rw e at p)
+    here = by (ltb k (length table / 10)) refl (rw e at p)
       where
-        by : (b : Bool) → ltb k (length table / 9) ≡ b → rangeOf (pick b (numbersOf (drop (9 * k) table)) noNumbers) ≡ true → k < length table / 9
-        by true f q = ltb-true k (length table / 9) f
+        by : (b : Bool) → ltb k (length table / 10) ≡ b → rangeOf (pick b (numbersOf (drop (10 * k) table)) noNumbers) ≡ true → k < length table / 10
+        by true f q = ltb-true k (length table / 10) f
         by false f q = absurd (false≢true q)
 
-    said : n ≡ numbersOf (drop (9 * k) table)
+    said : n ≡ numbersOf (drop (10 * k) table)
     unfolding numbersAt
-    said = e ∙ rw (lt-ltb k (length table / 9) here)
+    said = e ∙ rw (lt-ltb k (length table / 10) here)
 
     its-count : row .count ≡ n .count
     unfolding rowOf
@@ -192,7 +162,7 @@ module _ (table ix : List ℕ) (k : ℕ) (n : Numbers) (e : n ≡ numbersAt tabl
       alone : ieis row ≡ n .first ∷ []
       alone =
           let z = count-is table k in
-          let f = iei-at table k 0 (omega (arith, its-count)) (lit< tt) ∙ sym (getD-drop (9 * k) table 1 0) in
+          let f = iei-at table k 0 (omega (arith, its-count)) (lit< tt) ∙ sym (getD-drop (10 * k) table 1 0) in
           single (ieis row) (omega (arith, iei-count table k, here, its-count)) ∙ ap (λ (x : ℕ). x ∷ []) (f ∙ ap (λ (m : Numbers). m .first) (sym said))
 
       pub one-passes : passes k row ix ≡ (goodIei (eqb (n .code) 0) (n .first) && free ix (n .first))

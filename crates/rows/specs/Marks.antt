@@ -38,18 +38,18 @@ markOf k = min noPlace k
 abbrev pub enterRow : ℕ → Row → List ℕ → List ℕ
 enterRow k r ix = enterAll (markOf k) (ieis r) ix
 
--- the numbers of a row behind its IEIs: the code and the size of its form, the least whole length, the set of kinds
-unfoldable pub inRange : ℕ → ℕ → ℕ → ℕ → Bool
-inRange code size least kinds =
+-- the numbers of a row behind its IEIs: the code and the size of its form, the least and the greatest whole length, the set of kinds
+unfoldable pub inRange : ℕ → ℕ → ℕ → ℕ → ℕ → Bool
+inRange code size least greatest kinds =
     leb 1 kinds && (leb kinds (mostKinds (eqb code 0))
-    && (leb code 3 && ((not (eqb code 1) || leb size 255) && leb least 65538)))
+    && (leb code 3 && ((not (eqb code 1) || leb size 255) && (leb least greatest && leb greatest 65538))))
 
 -- its IEIs: one to four, each good, and free when it is entered
 unfoldable pub ieisPass : ℕ → Row → List ℕ → Bool
 ieisPass k r ix = leb 1 (r .count) && (leb (r .count) 4 && enters (eqb (r .code) 0) (markOf k) (ieis r) ix)
 
 unfoldable pub passes : ℕ → Row → List ℕ → Bool
-passes k r ix = inRange (r .code) (r .size) (r .least) (r .kinds) && ieisPass k r ix
+passes k r ix = inRange (r .code) (r .size) (r .least) (r .greatest) (r .kinds) && ieisPass k r ix
 
 -- the first bad row from row k on, with the index of the rows before it
 unfoldable pub badFrom : ℕ → List ℕ → List Row → Option ℕ

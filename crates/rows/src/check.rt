@@ -56,8 +56,8 @@ fn most_kinds(half: bool) -> u32
 }
 
 // The ranges of a row's numbers behind its IEIs.
-fn in_range(code: u32, size: usize, least: usize, kinds: u32) -> bool
-    ensures { λ r. ⌜ r ≡ inRange code size least kinds ⌝ }
+fn in_range(code: u32, size: usize, least: usize, greatest: usize, kinds: u32) -> bool
+    ensures { λ r. ⌜ r ≡ inRange code size least greatest kinds ⌝ }
 {
     if kinds < 1 {
         return false;
@@ -71,7 +71,10 @@ fn in_range(code: u32, size: usize, least: usize, kinds: u32) -> bool
     if !size_fits(code, size) {
         return false;
     }
-    least <= 65_538
+    if least > greatest {
+        return false;
+    }
+    greatest <= 65_538
 }
 
 // A row, its IEIs entered where it passes. Most rows list one, which needs no walk; an unfinished row has no set of kinds.
@@ -79,7 +82,7 @@ fn row_passes(table: &[u32], place: usize, index: &mut [u8; 256]) -> bool
     ensures { λ r. ⌜ (r ≡ passes place (rowAt (rowsOf (now (table .entry))) place) (now (index .entry))) × (r ≡ true → now (index .exit) ≡ enterRow place (rowAt (rowsOf (now (table .entry))) place) (now (index .entry))) ⌝ }
 {
     let row = numbers_at(table, place);
-    if !in_range(row.code, row.size, row.least, row.kinds) {
+    if !in_range(row.code, row.size, row.least, row.greatest, row.kinds) {
         return false;
     }
     if row.count == 1 {

@@ -1,4 +1,4 @@
-// The rows of a lent table. Only this module knows the columns: nine numbers a row of optional elements, four a mandatory one.
+// The rows of a lent table. Only this module knows the columns: ten numbers a row of optional elements, four a mandatory one.
 // A number that is not there counts as 0, so that each call has an answer for every table and every place; where all are taken
 // at once, an unfinished row has none.
 ghost use mathlib.Core.Path.{_≡_};
@@ -17,14 +17,15 @@ pub enum Form {
     TlvE,
 }
 
-// The numbers of a row, with its first IEI alone: how many IEIs, that one, the code and the size of its form, the least whole
-// length, the set of kinds.
+// The numbers of a row, with its first IEI alone: how many IEIs, that one, the code and the size of its form, the least and the
+// greatest whole length, the set of kinds.
 pub struct Numbers {
     pub count: u32,
     pub first: u32,
     pub code: u32,
     pub size: usize,
     pub least: usize,
+    pub greatest: usize,
     pub kinds: u32,
 }
 
@@ -47,12 +48,12 @@ fn wide(x: u32) -> usize
 
 // A number of a row.
 fn number_at(table: &[u32], place: usize, column: usize) -> u32
-    ensures { λ r. ⌜ r ≡ getD (drop (9 * place) (now (table .entry))) column 0 ⌝ }
+    ensures { λ r. ⌜ r ≡ getD (drop (10 * place) (now (table .entry))) column 0 ⌝ }
 {
-    if place > table.len() / 9 {
+    if place > table.len() / 10 {
         return 0;
     }
-    let start = 9 * place;
+    let start = 10 * place;
     if column >= table.len() - start {
         return 0;
     }
@@ -63,10 +64,10 @@ fn number_at(table: &[u32], place: usize, column: usize) -> u32
 pub fn places(table: &[u32]) -> usize
     ensures { λ r. ⌜ r ≡ length (rowsOf (now (table .entry))) ⌝ }
 {
-    if table.len() % 9 == 0 {
-        return table.len() / 9;
+    if table.len() % 10 == 0 {
+        return table.len() / 10;
     }
-    table.len() / 9 + 1
+    table.len() / 10 + 1
 }
 
 pub fn count_at(table: &[u32], place: usize) -> u32
@@ -91,24 +92,26 @@ pub fn size_at(table: &[u32], place: usize) -> usize
 pub fn numbers_at(table: &[u32], place: usize) -> Numbers
     ensures { λ r. ⌜ r ≡ numbersAt (now (table .entry)) place ⌝ }
 {
-    if place >= table.len() / 9 {
+    if place >= table.len() / 10 {
         return Numbers {
             count: 0,
             first: 0,
             code: 0,
             size: 0,
             least: 0,
+            greatest: 0,
             kinds: 0,
         };
     }
-    let start = 9 * place;
+    let start = 10 * place;
     Numbers {
         count: table[start],
         first: table[start + 1],
         code: table[start + 5],
         size: wide(table[start + 6]),
         least: wide(table[start + 7]),
-        kinds: table[start + 8],
+        greatest: wide(table[start + 8]),
+        kinds: table[start + 9],
     }
 }
 
@@ -128,7 +131,7 @@ pub fn form_of(code: u32, size: usize) -> Form
 pub fn form_at(table: &[u32], place: usize) -> Form
     ensures { λ r. ⌜ formAs r ≡ form (rowAt (rowsOf (now (table .entry))) place) ⌝ }
 {
-    if place < table.len() / 9 {
+    if place < table.len() / 10 {
         let row = numbers_at(table, place);
         return form_of(row.code, row.size);
     }
@@ -139,10 +142,10 @@ pub fn form_at(table: &[u32], place: usize) -> Form
 pub fn iei_count(table: &[u32], place: usize) -> usize
     ensures { λ r. ⌜ r ≡ length (ieis (rowAt (rowsOf (now (table .entry))) place)) ⌝ }
 {
-    if place > table.len() / 9 {
+    if place > table.len() / 10 {
         return 0;
     }
-    let left = table.len() - 9 * place;
+    let left = table.len() - 10 * place;
     let count = wide(count_at(table, place));
     let most = if left < 5 { left } else { 5 };
     if count < most {

@@ -24,7 +24,7 @@ returns c =
     let a = c .before .before .before .before .args in
     c .form-of .ensures
     ∙ ap (λ (n : Numbers). formOf (n .code) (n .size)) (c .before .numbers-at .ensures)
-    ∙ rw (lt-ltb (a .place) (length (a .table .now) / 9) (c .before .before .if1 .taken), row-at (a .table .now) (a .place))
+    ∙ rw (lt-ltb (a .place) (length (a .table .now) / 10) (c .before .before .if1 .taken), row-at (a .table .now) (a .place))
 
 code-at-requires : tie.Need-code-at-requires
 code-at-requires c κs = search needs

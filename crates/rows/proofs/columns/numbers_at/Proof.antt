@@ -1,6 +1,6 @@
 -- `numbers_at` takes the numbers of a row that the table has whole, and none of any other.
 -- A number of what is left from the row's start is the table's own.
-use Prim.Native.Nat.{_*_, _+_, _/_}
+use Prim.Native.Nat.{ℕ, _*_, _+_, _/_}
 use mathlib.Core.Path.{_≡_}
 use native.Mathlib.Omega.{arith}
 use borrow.Author.Tests.{lt-ltb, le-ltb}
@@ -13,7 +13,7 @@ use Rattle.rows.proofs.columns.numbers_at.Tie as tie
 
 returns : tie.Need-returns
 unfolding numbersAt
-returns c = let a = c .before .before .args in rw (le-ltb (a .place) (length (a .table .now) / 9) (omega arith))
+returns c = let a = c .before .before .args in rw (le-ltb (a .place) (length (a .table .now) / 10) (omega arith))
 
 mul-start : tie.Need-mul-start
 mul-start c = search needs
@@ -66,21 +66,48 @@ shared-slice-read-wide-2 c = search needs
 wide-requires-2 : tie.Need-wide-requires-2
 wide-requires-2 c κs = search needs
 
-add-t26 : tie.Need-add-t26
-add-t26 c = search needs
+add-wide-3 : tie.Need-add-wide-3
+add-wide-3 c = search needs
 
-mul-t27 : tie.Need-mul-t27
-mul-t27 c = search needs
+mul-wide-3 : tie.Need-mul-wide-3
+mul-wide-3 c = search needs
 
-shared-slice-read-t29 : tie.Need-shared-slice-read-t29
-shared-slice-read-t29 c = search needs
+shared-slice-read-wide-3 : tie.Need-shared-slice-read-wide-3
+shared-slice-read-wide-3 c = search needs
+
+wide-requires-3 : tie.Need-wide-requires-3
+wide-requires-3 c κs = search needs
+
+add-t31 : tie.Need-add-t31
+add-t31 c = search needs
+
+mul-t32 : tie.Need-mul-t32
+mul-t32 c = search needs
+
+shared-slice-read-t34 : tie.Need-shared-slice-read-t34
+shared-slice-read-t34 c = search needs
 
 returns-2 : tie.Need-returns-2
 unfolding numbersAt
 returns-2 c =
-    let a = c .before .before .before .before .before .before .before .before .before .before .args in
-    let z : 9 * a .place + 0 ≡ 9 * a .place = omega arith in
-    rw (lt-ltb (a .place) (length (a .table .now) / 9) (omega arith), getD-drop (9 * a .place) (a .table .now) 0 0, z, getD-drop (9 * a .place) (a .table .now) 1 0, getD-drop (9 * a .place) (a .table .now) 5 0, getD-drop (9 * a .place) (a .table .now) 6 0, getD-drop (9 * a .place) (a .table .now) 7 0, getD-drop (9 * a .place) (a .table .now) 8 0, c .before .before .before .wide .ensures, c .before .wide2 .ensures)
+    let a = c .before .before .before .before .before .before .before .before .before .before .before .before .args in
+    let s = a .table .now in
+    let at : ℕ = 10 * a .place in
+    let z : 10 * a .place + 0 ≡ 10 * a .place = omega arith in
+    rw (
+      lt-ltb (a .place) (length s / 10) (omega arith),
+      getD-drop at s 0 0,
+      z,
+      getD-drop at s 1 0,
+      getD-drop at s 5 0,
+      getD-drop at s 6 0,
+      getD-drop at s 7 0,
+      getD-drop at s 8 0,
+      getD-drop at s 9 0,
+      c .before .before .before .before .before .wide .ensures,
+      c .before .before .before .wide2 .ensures,
+      c .before .wide3 .ensures,
+    )
 
 pub numbers-at-spec : {M : Type 1} → statement M
 numbers-at-spec =
@@ -104,7 +131,11 @@ numbers-at-spec =
     mul-wide-2
     shared-slice-read-wide-2
     wide-requires-2
-    add-t26
-    mul-t27
-    shared-slice-read-t29
+    add-wide-3
+    mul-wide-3
+    shared-slice-read-wide-3
+    wide-requires-3
+    add-t31
+    mul-t32
+    shared-slice-read-t34
     returns-2)

@@ -13,7 +13,7 @@ use Rattle.rows.proofs.columns.slot_at.Tie as tie
 
 returns : tie.Need-returns
 unfolding rowOf
-returns c = let a = c .before .before .args in let d = drop 1 (drop (9 * a .place) (a .table .now)) in sym (ap (λ (r : Row). getD (r .slots) (a .number) 0) (row-at (a .table .now) (a .place)) ∙ List·getD-eq-default (take 4 d) 0 (simp length-take (omega arith)))
+returns c = let a = c .before .before .args in let d = drop 1 (drop (10 * a .place) (a .table .now)) in sym (ap (λ (r : Row). getD (r .slots) (a .number) 0) (row-at (a .table .now) (a .place)) ∙ List·getD-eq-default (take 4 d) 0 (simp length-take (omega arith)))
 
 add-number-at : tie.Need-add-number-at
 add-number-at c = search needs
@@ -25,7 +25,7 @@ returns-2 : tie.Need-returns-2
 unfolding rowOf
 returns-2 c =
     let a = c .before .before .before .args in
-    let d = drop (9 * a .place) (a .table .now) in
+    let d = drop (10 * a .place) (a .table .now) in
     c .number-at .ensures
     ∙ sym (ap (λ (r : Row). getD (r .slots) (a .number) 0) (row-at (a .table .now) (a .place)) ∙ getD-take 4 (drop 1 d) (a .number) 0 (omega arith) ∙ getD-drop 1 d (a .number) 0)
 

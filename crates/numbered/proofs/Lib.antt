@@ -1,0 +1,2 @@
+-- Laws that those who load a table cite.
+pub mod Loading
