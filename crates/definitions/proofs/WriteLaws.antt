@@ -14,7 +14,7 @@ use Rattle.definitions.specs.Basic.{pick, isNone, concat, Answer, answer
 use Rattle.definitions.specs.Rows.{Row, rowsOf, firstBad, placeOf}
 use Rattle.definitions.specs.Tables.{tableOf}
 use Rattle.definitions.specs.Logs.{Placed, knownIei, notKnown, ignored, keptList, orderList, orEmpty}
-use Rattle.definitions.specs.Values.{Octets, badRows, valuesTooLong}
+use Rattle.definitions.specs.Values.{Octets, placeWidth, badRows, apart, valuesTooLong}
 use Rattle.definitions.specs.Writing.{Filled, elementAt, below, notBelow, firsts, walked, written, unfit, octetsIn, octetsFor, writingChecks, Wrote, writing, writingBy}
 
 -- ---- the checks
@@ -43,29 +43,29 @@ module _ (table rows received : List ℕ) (set order kept : Used) (output : List
     write-long h = rw (passes, h)
 
     module _ (short : (valuesTooLong received set || (tooLong mostLog order || tooLong mostLog kept)) ≡ false) where
-      pub write-rows : length rows < 3 * length t → wrote ≡ unwritten output (answer 2 (1 ∷ []))
+      pub write-rows : length rows < placeWidth * length t → wrote ≡ unwritten output (answer 2 (1 ∷ []))
       unfolding writing writingChecks refusal
-      write-rows h = rw (passes, short, lt-ltb (length rows) (3 * length t) h)
+      write-rows h = rw (passes, short, lt-ltb (length rows) (placeWidth * length t) h)
 
-      module _ (room : 3 * length t ≤ length rows) where
+      module _ (room : placeWidth * length t ≤ length rows) where
         pub write-order : orderList (content order) ≡ none → wrote ≡ unwritten output (answer 11 (1 ∷ []))
         unfolding writing writingChecks refusal isNone
-        write-order e = rw (passes, short, le-ltb (length rows) (3 * length t) room, e)
+        write-order e = rw (passes, short, le-ltb (length rows) (placeWidth * length t) room, e)
 
         module _ (ps : List Placed) (p : orderList (content order) ≡ some ps) where
           pub write-kept : keptList (content kept) ≡ none → wrote ≡ unwritten output (answer 11 (2 ∷ []))
           unfolding writing writingChecks refusal isNone
-          write-kept e = rw (passes, short, le-ltb (length rows) (3 * length t) room, p, e)
+          write-kept e = rw (passes, short, le-ltb (length rows) (placeWidth * length t) room, p, e)
 
           module _ (ks : List (List ℕ)) (q : keptList (content kept) ≡ some ks) where
-            pub write-values : badRows o rows (length t) ≡ true → wrote ≡ unwritten output (answer 11 (3 ∷ []))
-            unfolding writing writingChecks refusal isNone octetsIn
-            write-values e = rw (passes, short, le-ltb (length rows) (3 * length t) room, p, q, e)
+            pub write-values : (badRows placeWidth o rows (length t) || apart t ps rows) ≡ true → wrote ≡ unwritten output (answer 11 (3 ∷ []))
+            unfolding writing writingChecks refusal isNone octetsIn orEmpty
+            write-values e = rw (passes, short, le-ltb (length rows) (placeWidth * length t) room, p, q, e)
 
-            module _ (good : badRows o rows (length t) ≡ false) where
+            module _ (good : (badRows placeWidth o rows (length t) || apart t ps rows) ≡ false) where
               pub write-unfit : {k : ℕ} → unfit t o rows ≡ some k → wrote ≡ unwritten output (answer 10 (k ∷ []))
-              unfolding writing writingChecks refusal isNone octetsIn
-              write-unfit e = rw (passes, short, le-ltb (length rows) (3 * length t) room, p, q, good, e)
+              unfolding writing writingChecks refusal isNone octetsIn orEmpty
+              write-unfit e = rw (passes, short, le-ltb (length rows) (placeWidth * length t) room, p, q, good, e)
 
               module _ (fit : unfit t o rows ≡ none) where
                 abbrev w : List ℕ
@@ -73,11 +73,11 @@ module _ (table rows received : List ℕ) (set order kept : Used) (output : List
 
                 pub write-short : length output < length w → wrote ≡ unwritten output (answer 12 (length w ∷ []))
                 unfolding writing writingChecks refusal isNone octetsIn octetsFor orEmpty
-                write-short h = rw (passes, short, le-ltb (length rows) (3 * length t) room, p, q, good, fit, lt-ltb (length output) (length w) h)
+                write-short h = rw (passes, short, le-ltb (length rows) (placeWidth * length t) room, p, q, good, fit, lt-ltb (length output) (length w) h)
 
                 pub write-done : length w ≤ length output → wrote ≡ record { said = answer 0 (length w ∷ []); output = over w output }
                 unfolding writing writingChecks refusal isNone octetsIn octetsFor orEmpty
-                write-done h = rw (passes, short, le-ltb (length rows) (3 * length t) room, p, q, good, fit, le-ltb (length output) (length w) h)
+                write-done h = rw (passes, short, le-ltb (length rows) (placeWidth * length t) room, p, q, good, fit, le-ltb (length output) (length w) h)
 
 -- by table number
 module _ (n : ℕ) (rows received : List ℕ) (set order kept : Used) (output : List ℕ) where

@@ -7,7 +7,7 @@ use mathlib.Core.Option.{Option, none, some}
 use lib.ListN.{length, take, drop}
 use lib.Dec.{ltb, leb, eqb}
 use Rattle.definitions.specs.Basic.{pick, isNone, Answer, answer, refuse, refusal, unless, Used, content, tooLong, mostOctets, mostLog, overAt}
-use Rattle.definitions.specs.Rows.{Row, firstIei}
+use Rattle.definitions.specs.Rows.{Row, placeOf, firstIei}
 use Rattle.definitions.specs.Elements.{accepted, unknown, malformed, repeated, outOfSequence, Element, isAccepted, ieiAt}
 
 -- ---- the kept log
@@ -161,13 +161,17 @@ unfoldable pub entriesOf : List Element → List ℕ
 entriesOf [] = []
 entriesOf (e ∷ es) = orderEntry (placedOf e) ++ entriesOf es
 
--- whether every element is accepted, in table order, under the first IEI of its place; least is the lowest place that may come
+-- whether an element of place k is accepted, in table order, under the first IEI of its place; least is the lowest place that may come
+unfoldable pub plainAt : List Row → ℕ → ℕ → Element → Bool
+plainAt t least k e = isAccepted (e .verdict) && (leb least k && eqb (ieiAt e) (firstIei t k))
+
+-- whether every element is so, each of a place above the one before
 unfoldable pub plainFrom : List Row → ℕ → List Element → Bool
 plainFrom t least [] = true
 plainFrom t least (e ∷ es) =
     elim (e .place) [
       | none ↦ false
-      | some k ↦ isAccepted (e .verdict) && (leb least k && (eqb (ieiAt e) (firstIei t k) && plainFrom t (suc k) es))
+      | some k ↦ plainAt t least k e && plainFrom t (suc k) es
     ]
 
 -- the log of a part: empty where the table says it all, else an entry for each element
@@ -189,6 +193,14 @@ orderListF (suc f) (suc (suc (suc (suc (suc n)))) ∷ s) = none
 
 unfoldable pub orderList : List ℕ → Option (List Placed)
 orderList s = orderListF (length s) s
+
+-- the IEI of a place (document 02, item 9): the earliest that the entries of an order log give for it, else its first. A logged IEI is
+-- not masked, and an element that was set aside gives none
+unfoldable pub ieiFor : List Row → List Placed → ℕ → ℕ
+ieiFor t [] k = firstIei t k
+ieiFor t (knownIei i ∷ ps) k = elim (placeOf t i) [ none ↦ ieiFor t ps k | some j ↦ pick (eqb j k) i (ieiFor t ps k) ]
+ieiFor t (notKnown ∷ ps) k = ieiFor t ps k
+ieiFor t (ignored r ∷ ps) k = ieiFor t ps k
 
 -- `IeOrder::push`
 unfoldable pub orderPush : Used → Placed → Logged

@@ -9,7 +9,7 @@ use lib.Dec.{ltb, leb, eqb}
 use Rattle.definitions.specs.Basic.{pick, isNone, mostKinds, receivable, Answer, answer, refusal, refuse, refuseAt, unless, Used, content, mostOctets, over}
 use Rattle.definitions.specs.Octets.{numberAt}
 use Rattle.definitions.specs.Tables.{mandatoryTableOf}
-use Rattle.definitions.specs.Values.{Octets, Value, valueAt, present, octetsAt, firstFrom, badRows, valuesTooLong}
+use Rattle.definitions.specs.Values.{Octets, Value, mandatoryWidth, valueIn, present, octetsAt, firstFrom, badRows, valuesTooLong}
 
 pub data MandatoryForm : Type 0 where
   lowHalf : MandatoryForm
@@ -151,7 +151,7 @@ mandatoryReading table lenient part rows =
     (refusal
     (refuseAt 4 (firstBadMandatory t)
     ∷ refuse (ltb mostOctets (length part)) 3 []
-    ∷ refuse (ltb (length rows) (3 * length t)) 2 (1 ∷ [])
+    ∷ refuse (ltb (length rows) (mandatoryWidth * length t)) 2 (1 ∷ [])
     ∷ o .refused
     ∷ []))
     (λ a. record { said = a; rows = rows })
@@ -193,7 +193,7 @@ encodedRow lv-e low source s = (length s / 256) ∷ (length s % 256) ∷ s
 unfoldable pub rowsWritten : Octets → List ℕ → ℕ → ℕ → List MandatoryRow → List ℕ
 rowsWritten o rows k low [] = []
 rowsWritten o rows k low (r ∷ rs) =
-    let v : Value = valueAt rows k in
+    let v : Value = valueIn mandatoryWidth rows k in
     let s : List ℕ = octetsAt o v in
     encodedRow (mandatoryForm r) low (v .source) s ++ rowsWritten o rows (suc k) (lowBits (getD s 0 0)) rs
 
@@ -212,16 +212,16 @@ unfoldable pub mandatoryWriting : List ℕ → List ℕ → List ℕ → Used �
 mandatoryWriting table rows received set output =
     let t : List MandatoryRow = mandatoryRowsOf table in
     let o : Octets = record { received = received; set = content set } in
-    let absent : Option ℕ = firstFrom (λ k. not (present (valueAt rows k))) 0 (length t) in
+    let absent : Option ℕ = firstFrom (λ k. not (present (valueIn mandatoryWidth rows k))) 0 (length t) in
     let misfit : Option ℕ =
-    firstFrom (λ k. not (fitsMandatory (mandatoryForm (mandatoryRowAt t k)) (valueAt rows k .source) (octetsAt o (valueAt rows k)))) 0 (length t) in
+    firstFrom (λ k. not (fitsMandatory (mandatoryForm (mandatoryRowAt t k)) (valueIn mandatoryWidth rows k .source) (octetsAt o (valueIn mandatoryWidth rows k)))) 0 (length t) in
     let w : List ℕ = rowsWritten o rows 0 0 t in
     unless
     (refusal
     (refuseAt 4 (firstBadMandatory t)
     ∷ refuse (valuesTooLong received set) 3 []
-    ∷ refuse (ltb (length rows) (3 * length t)) 2 (1 ∷ [])
-    ∷ refuse (badRows o rows (length t) || not (isNone absent)) 11 (3 ∷ [])
+    ∷ refuse (ltb (length rows) (mandatoryWidth * length t)) 2 (1 ∷ [])
+    ∷ refuse (badRows mandatoryWidth o rows (length t) || not (isNone absent)) 11 (3 ∷ [])
     ∷ refuseAt 10 misfit
     ∷ refuse (ltb (length output) (length w)) 12 (length w ∷ [])
     ∷ []))

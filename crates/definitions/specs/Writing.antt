@@ -9,7 +9,7 @@ use Rattle.definitions.specs.Basic.{pick, isNone, among, concat, Answer,
 use Rattle.definitions.specs.Rows.{Row, Form, half, fixed, tlv, tlv-e, rowsOf, rowAt, form, placeOf, firstIei, firstBad}
 use Rattle.definitions.specs.Tables.{tableOf}
 use Rattle.definitions.specs.Logs.{Placed, knownIei, notKnown, ignored, keptList, orderList, orEmpty}
-use Rattle.definitions.specs.Values.{Octets, Value, valueAt, present, octetsAt, firstFrom, badRows, unfitAt, valuesTooLong}
+use Rattle.definitions.specs.Values.{Octets, Value, placeWidth, valueAt, present, octetsAt, firstFrom, badRows, apart, unfitAt, valuesTooLong}
 
 -- an element: its IEI, its length field, its value; a half octet in the octet of its IEI
 unfoldable pub encoded : Form → ℕ → List ℕ → List ℕ
@@ -94,17 +94,18 @@ octetsFor m =
     written (record { table = m .table; rows = m .rows; octets = octetsIn m }) (orEmpty (orderList (content (m .order))))
     (orEmpty (keptList (content (m .kept))))
 
--- the checks of writing, in document 01's order: 4, 3, 2 (1), 11 (1), 11 (2), 11 (3), 10, 12 with the output needed
+-- the checks of writing, in document 01's order: 4, 3, 2 (1), 11 (1), 11 (2), 11 (3), also where a row disagrees with the order log, 10, 12
+-- with the output needed
 unfoldable pub writingChecks : Message → List ℕ → List (Option Answer)
 writingChecks m output =
     let places : ℕ = length (m .table) in
     let need : ℕ = length (octetsFor m) in
     refuseAt 4 (firstBad (m .table))
     ∷ refuse (valuesTooLong (m .received) (m .set) || (tooLong mostLog (m .order) || tooLong mostLog (m .kept))) 3 []
-    ∷ refuse (ltb (length (m .rows)) (3 * places)) 2 (1 ∷ [])
+    ∷ refuse (ltb (length (m .rows)) (placeWidth * places)) 2 (1 ∷ [])
     ∷ refuse (isNone (orderList (content (m .order)))) 11 (1 ∷ [])
     ∷ refuse (isNone (keptList (content (m .kept)))) 11 (2 ∷ [])
-    ∷ refuse (badRows (octetsIn m) (m .rows) places) 11 (3 ∷ [])
+    ∷ refuse (badRows placeWidth (octetsIn m) (m .rows) places || apart (m .table) (orEmpty (orderList (content (m .order)))) (m .rows)) 11 (3 ∷ [])
     ∷ refuseAt 10 (unfit (m .table) (octetsIn m) (m .rows))
     ∷ refuse (ltb (length output) need) 12 (need ∷ [])
     ∷ []

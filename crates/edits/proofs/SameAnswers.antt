@@ -19,7 +19,7 @@ edited-back (suc zero) vs = Edited.Cleared
 edited-back (suc (suc zero)) vs = Edited.NoRoom
 edited-back (suc (suc (suc zero))) vs = Edited.TooLong
 edited-back (suc (suc (suc (suc zero)))) vs = Edited.BadTable (getD vs 0 0)
-edited-back (suc (suc (suc (suc (suc n))))) vs = pick (eqb n 5) (Edited.Unfit (getD vs 0 0)) (pick (eqb n 6) Edited.Malformed (Edited.NoSet (getD vs 0 0)))
+edited-back (suc (suc (suc (suc (suc n))))) vs = pick (eqb n 5) (Edited.Unfit (getD vs 0 0)) (pick (eqb n 6) (pick (eqb (getD vs 0 0) 1) Edited.MalformedLog Edited.Malformed) (Edited.NoSet (getD vs 0 0)))
 
 edited-found : (e : Edited) → edited-back (editedAs e .number) (editedAs e .values) ≡ e
 unfolding edited-back done-back
@@ -28,6 +28,7 @@ edited-found Edited.Cleared = refl
 edited-found (Edited.BadTable k) = refl
 edited-found Edited.TooLong = refl
 edited-found Edited.NoRoom = refl
+edited-found Edited.MalformedLog = refl
 edited-found Edited.Malformed = refl
 edited-found (Edited.Unfit k) = refl
 edited-found (Edited.NoSet n) = refl

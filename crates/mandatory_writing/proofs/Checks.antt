@@ -10,7 +10,7 @@ use lib.ListN.{length}
 use Rattle.definitions.specs.Basic.{isNone, refusal, over, Used, content}
 use Rattle.definitions.specs.Mandatory.{MandatoryRow, mandatoryRowsOf, firstBadMandatory, rowsWritten, RowsWrote, mandatoryWriting, mandatoryWritingBy}
 use Rattle.definitions.specs.Tables.{mandatoryTableOf}
-use Rattle.definitions.specs.Values.{Octets, badRows, valuesTooLong}
+use Rattle.definitions.specs.Values.{Octets, mandatoryWidth, badRows, valuesTooLong}
 use Rattle.values.specs.Rows.{sourcesOf}
 use Rattle.mandatory_writing.specs.Writes.{wroteAs, Writes, fitsAt, misfitIn, absentIn, wroteBy}
 use Rattle.mandatory_writing.specs.declared.encode.MandatoryWrote.{MandatoryWrote}
@@ -22,11 +22,11 @@ writes r e = record { answers = ap (λ (x : RowsWrote). x .said) (sym e); output
 -- ---- the rows, their values, the output
 
 module _ (t : List MandatoryRow) (o : Octets) (rows output : List ℕ) where
-  pub wrote-bad : badRows o rows (length t) ≡ true → Writes (wroteBy t o rows output) MandatoryWrote.Malformed output
+  pub wrote-bad : badRows mandatoryWidth o rows (length t) ≡ true → Writes (wroteBy t o rows output) MandatoryWrote.Malformed output
   unfolding wroteBy refusal
   wrote-bad b = writes MandatoryWrote.Malformed (rw b)
 
-  module _ (b : badRows o rows (length t) ≡ false) where
+  module _ (b : badRows mandatoryWidth o rows (length t) ≡ false) where
     pub wrote-absent : not (isNone (absentIn rows (length t))) ≡ true → Writes (wroteBy t o rows output) MandatoryWrote.Malformed output
     unfolding wroteBy refusal
     wrote-absent a = writes MandatoryWrote.Malformed (rw (b, a))

@@ -11,7 +11,7 @@ use borrow.Author.Tests.{not-false}
 use lib.ListN.{length, getD, drop, length-append, drop-of-length-le}
 use Rattle.definitions.specs.Basic.{over, overAt}
 use Rattle.definitions.specs.Mandatory.{MandatoryForm, MandatoryRow, mandatoryRowAt, mandatoryForm, fitsMandatory, lowBits, encodedRow, rowsWritten}
-use Rattle.definitions.specs.Values.{Octets, valueAt, octetsAt}
+use Rattle.definitions.specs.Values.{Octets, mandatoryWidth, valueIn, octetsAt}
 use Rattle.definitions.proofs.Lists.{over-none, over-next, length-overAt}
 use Rattle.rows.proofs.Steps.{mandatory-drop}
 use Rattle.mandatory_writing.specs.Writes.{fitsAt, misfitIn}
@@ -19,7 +19,7 @@ use Rattle.mandatory_writing.proofs.Searching.{nowhere}
 
 -- where no row is unfit, each fits
 pub fits-here : (t : List MandatoryRow) (o : Octets) (rows : List ℕ) → misfitIn t o rows 0 (length t) ≡ none → (k : ℕ) → k < length t
-    → fitsMandatory (mandatoryForm (mandatoryRowAt t k)) (valueAt rows k .source) (octetsAt o (valueAt rows k)) ≡ true
+    → fitsMandatory (mandatoryForm (mandatoryRowAt t k)) (valueIn mandatoryWidth rows k .source) (octetsAt o (valueIn mandatoryWidth rows k)) ≡ true
 unfolding fitsAt
 fits-here t o rows e k h = not-false (fitsAt t o rows k) (nowhere (λ j. not (fitsAt t o rows j)) 0 (length t) e k (omega arith) (omega arith))
 
@@ -43,10 +43,10 @@ module _ (t : List MandatoryRow) (o : Octets) (rows out₀ : List ℕ) where
 
     module _ (h : k < length t) where
       abbrev row : List ℕ
-      row = encodedRow (mandatoryForm (mandatoryRowAt t k)) low (valueAt rows k .source) (octetsAt o (valueAt rows k))
+      row = encodedRow (mandatoryForm (mandatoryRowAt t k)) low (valueIn mandatoryWidth rows k .source) (octetsAt o (valueIn mandatoryWidth rows k))
 
       abbrev bits : ℕ
-      bits = lowBits (getD (octetsAt o (valueAt rows k)) 0 0)
+      bits = lowBits (getD (octetsAt o (valueIn mandatoryWidth rows k)) 0 0)
 
       abbrev rest : List ℕ
       rest = rowsWritten o rows (suc k) bits (drop (suc k) t)

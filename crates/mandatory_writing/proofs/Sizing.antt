@@ -7,7 +7,7 @@ use mathlib.Core.Path.{_≡_, refl, ap₂, _∙_}
 use mathlib.Core.List.{List, [], _∷_}
 use lib.ListN.{length, getD, drop, length-take, length-drop, length-append, drop-of-length-le}
 use Rattle.definitions.specs.Mandatory.{MandatoryRow, mandatoryRowAt, mandatoryForm, lowBits, encodedRow, rowsWritten}
-use Rattle.definitions.specs.Values.{Octets, Value, valueAt, sourceOf, octetsAt}
+use Rattle.definitions.specs.Values.{Octets, Value, mandatoryWidth, valueIn, sourceOf, octetsAt}
 use Rattle.rows.proofs.Steps.{mandatory-drop}
 use Rattle.values.specs.Rows.{sourcesOf}
 use Rattle.mandatory_writing.specs.Writes.{Short, sizeAt, sizeFrom}
@@ -24,14 +24,14 @@ value-short received set v h = let s = source (v .source) in simp (length-take, 
 
 pub size-short : (received set rows : List ℕ) (r : MandatoryRow) (k : ℕ) → Short received set → sizeAt r (sourcesOf received set) rows k ≤ 65537
 unfolding sizeAt
-size-short received set rows r k h = omega (arith, value-short received set (valueAt rows k) h, size-most (mandatoryForm r) (length (octetsAt (sourcesOf received set) (valueAt rows k))))
+size-short received set rows r k h = omega (arith, value-short received set (valueIn mandatoryWidth rows k) h, size-most (mandatoryForm r) (length (octetsAt (sourcesOf received set) (valueIn mandatoryWidth rows k))))
 
 pub written-size : (o : Octets) (rows : List ℕ) (k low : ℕ) (rs : List MandatoryRow) → length (rowsWritten o rows k low rs) ≡ sizeFrom o rows k rs
 unfolding rowsWritten sizeFrom sizeAt
 written-size o rows k low [] = refl
 written-size o rows k low (r ∷ rs) =
-    length-append (encodedRow (mandatoryForm r) low (valueAt rows k .source) (octetsAt o (valueAt rows k))) (rowsWritten o rows (suc k) (lowBits (getD (octetsAt o (valueAt rows k)) 0 0)) rs)
-    ∙ ap₂ (λ (a b : ℕ). a + b) (encoded-size (mandatoryForm r) low (valueAt rows k .source) (octetsAt o (valueAt rows k))) (written-size o rows (suc k) (lowBits (getD (octetsAt o (valueAt rows k)) 0 0)) rs)
+    length-append (encodedRow (mandatoryForm r) low (valueIn mandatoryWidth rows k .source) (octetsAt o (valueIn mandatoryWidth rows k))) (rowsWritten o rows (suc k) (lowBits (getD (octetsAt o (valueIn mandatoryWidth rows k)) 0 0)) rs)
+    ∙ ap₂ (λ (a b : ℕ). a + b) (encoded-size (mandatoryForm r) low (valueIn mandatoryWidth rows k .source) (octetsAt o (valueIn mandatoryWidth rows k))) (written-size o rows (suc k) (lowBits (getD (octetsAt o (valueIn mandatoryWidth rows k)) 0 0)) rs)
 
 -- the rows from k on, added up from here on, give the size of all
 pub record Adding (t : List MandatoryRow) (o : Octets) (rows : List ℕ) (k size : ℕ) : Type 0 where

@@ -8,7 +8,7 @@ use lib.ListN.{length}
 use lib.Dec.{ltb}
 use Rattle.definitions.specs.Basic.{isNone, Answer, answer, refuse, refuseAt, refusal, unless, over}
 use Rattle.definitions.specs.Mandatory.{MandatoryForm, lowHalf, highHalf, fixedV, lv, lv-e, MandatoryRow, mandatoryForm, mandatoryRowAt, fitsMandatory, rowsWritten, RowsWrote}
-use Rattle.definitions.specs.Values.{Octets, valueAt, octetsAt, present, firstFrom, badRows}
+use Rattle.definitions.specs.Values.{Octets, mandatoryWidth, valueIn, octetsAt, present, firstFrom, badRows}
 use Rattle.values.specs.Rows.{sourcesOf}
 use Rattle.mandatory_writing.specs.declared.encode.Misfit.{Misfit}
 use Rattle.mandatory_writing.specs.declared.encode.MandatoryWrote.{MandatoryWrote}
@@ -37,7 +37,7 @@ misfitAs (Misfit.At k) = some k
 
 -- whether the value of row k fits
 unfoldable pub fitsAt : List MandatoryRow → Octets → List ℕ → ℕ → Bool
-fitsAt t o rows k = fitsMandatory (mandatoryForm (mandatoryRowAt t k)) (valueAt rows k .source) (octetsAt o (valueAt rows k))
+fitsAt t o rows k = fitsMandatory (mandatoryForm (mandatoryRowAt t k)) (valueIn mandatoryWidth rows k .source) (octetsAt o (valueIn mandatoryWidth rows k))
 
 -- the lowest of the n rows from k on that does not
 abbrev pub misfitIn : List MandatoryRow → Octets → List ℕ → ℕ → ℕ → Option ℕ
@@ -59,7 +59,7 @@ encodedSize lv n = 1 + n
 encodedSize lv-e n = 2 + n
 
 unfoldable pub sizeAt : MandatoryRow → Octets → List ℕ → ℕ → ℕ
-sizeAt r o rows k = encodedSize (mandatoryForm r) (length (octetsAt o (valueAt rows k)))
+sizeAt r o rows k = encodedSize (mandatoryForm r) (length (octetsAt o (valueIn mandatoryWidth rows k)))
 
 -- row k and those behind it
 unfoldable pub sizeFrom : Octets → List ℕ → ℕ → List MandatoryRow → ℕ
@@ -76,14 +76,14 @@ pub record Ready (t : List MandatoryRow) (received set rows output : List ℕ) :
   pub room : length (rowsWritten (sourcesOf received set) rows 0 0 t) ≤ length output
 
 abbrev pub absentIn : List ℕ → ℕ → Option ℕ
-absentIn rows n = firstFrom (λ k. not (present (valueAt rows k))) 0 n
+absentIn rows n = firstFrom (λ k. not (present (valueIn mandatoryWidth rows k))) 0 n
 
 unfoldable pub wroteBy : List MandatoryRow → Octets → List ℕ → List ℕ → RowsWrote
 wroteBy t o rows output =
     let w : List ℕ = rowsWritten o rows 0 0 t in
     unless
     (refusal
-    (refuse (badRows o rows (length t) || not (isNone (absentIn rows (length t)))) 11 (3 ∷ [])
+    (refuse (badRows mandatoryWidth o rows (length t) || not (isNone (absentIn rows (length t)))) 11 (3 ∷ [])
     ∷ refuseAt 10 (misfitIn t o rows 0 (length t))
     ∷ refuse (ltb (length output) (length w)) 12 (length w ∷ [])
     ∷ []))

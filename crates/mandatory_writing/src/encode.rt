@@ -10,7 +10,7 @@ use rows::columns::mandatory_form_at;
 use rows::columns::mandatory_rows;
 use values::check::too_long;
 use values::row::any_bad;
-use values::row::row_at;
+use values::row::mandatory_row_at;
 use values::row::value_octets;
 ghost use mathlib.Core.Path.{_≡_};
 ghost use mathlib.Core.Bool.{not};
@@ -19,7 +19,7 @@ ghost use Prim.Native.Nat.{_≤_};
 ghost use lib.ListN.{length};
 ghost use Rattle.definitions.specs.Basic.{isNone, over};
 ghost use Rattle.definitions.specs.Mandatory.{mandatoryRowsOf, mandatoryRowAt, firstBadMandatory, rowsWritten, mandatoryWriting};
-ghost use Rattle.definitions.specs.Values.{valueAt, present, firstFrom};
+ghost use Rattle.definitions.specs.Values.{mandatoryWidth, valueIn, present, firstFrom};
 ghost use Rattle.kept.specs.Kept.{usedOf};
 ghost use Rattle.values.specs.Rows.{sourcesOf};
 ghost use Rattle.mandatory_writing.specs.Writes.{fitsAt, sizeAt, sizeFrom, misfitAs, misfitIn, Short, Ready, wroteBy, Writes};
@@ -44,11 +44,11 @@ pub enum Misfit {
 
 // Whether a row of the first n is absent.
 fn any_absent(rows: &[u32], n: usize) -> bool
-    ensures { λ r. ⌜ r ≡ not (isNone (firstFrom (λ k. not (present (valueAt (now (rows .entry)) k))) 0 n)) ⌝ }
+    ensures { λ r. ⌜ r ≡ not (isNone (firstFrom (λ k. not (present (valueIn mandatoryWidth (now (rows .entry)) k))) 0 n)) ⌝ }
 {
     let mut k = 0;
     while k < n {
-        let row = row_at(rows, k);
+        let row = mandatory_row_at(rows, k);
         if row.source == 0 {
             return true;
         }
@@ -61,7 +61,7 @@ fn any_absent(rows: &[u32], n: usize) -> bool
 fn row_fits<'a>(table: &[u32], rows: &[u32], received: &'a [u8], set: &'a [u8], k: usize) -> bool
     ensures { λ r. ⌜ r ≡ fitsAt (mandatoryRowsOf (now (table .entry))) (sourcesOf (now (received .entry)) (now (set .entry))) (now (rows .entry)) k ⌝ }
 {
-    let row = row_at(rows, k);
+    let row = mandatory_row_at(rows, k);
     fits_mandatory(
         mandatory_form_at(table, k),
         row.source,
@@ -93,7 +93,7 @@ fn row_size<'a>(table: &[u32], rows: &[u32], received: &'a [u8], set: &'a [u8], 
     requires { ⌜ Short (now received) (now set) ⌝ }
     ensures { λ r. ⌜ (r ≡ sizeAt (mandatoryRowAt (mandatoryRowsOf (now (table .entry))) k) (sourcesOf (now (received .entry)) (now (set .entry))) (now (rows .entry)) k) × (r ≤ 65537) ⌝ }
 {
-    let row = row_at(rows, k);
+    let row = mandatory_row_at(rows, k);
     let value = value_octets(received, set, row);
     encoded_size(mandatory_form_at(table, k), value.len())
 }
@@ -123,7 +123,7 @@ fn write_rows<'a>(table: &[u32], rows: &[u32], received: &'a [u8], set: &'a [u8]
     let mut low = 0u8;
     let mut k = 0;
     while k < n {
-        let row = row_at(rows, k);
+        let row = mandatory_row_at(rows, k);
         let value = value_octets(received, set, row);
         let form = mandatory_form_at(table, k);
         put_row(&mut output[at..], form, low, row.source, value);
@@ -145,7 +145,7 @@ fn encode_octets<'a>(
     ensures { λ r. ⌜ Writes (wroteBy (mandatoryRowsOf (now (table .entry))) (sourcesOf (now (received .entry)) (now (set .entry))) (now (rows .entry)) (now (output .entry))) r (now (output .exit)) ⌝ }
 {
     let n = mandatory_rows(table);
-    if any_bad(rows, n, received, set) {
+    if any_bad(rows, false, n, received, set) {
         return MandatoryWrote::Malformed;
     }
     if any_absent(rows, n) {

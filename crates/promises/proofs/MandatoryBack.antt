@@ -12,7 +12,7 @@ use lib.Seq.{getD-append-add, getD-drop, drop-drop, take-add}
 use lib.Dec.{ltb, eqb}
 use Rattle.definitions.specs.Basic.{pick}
 use Rattle.definitions.specs.Mandatory.{MandatoryRow, mandatoryRowAt, mandatoryForm, goodMandatory, mostMandatory, firstBadMandatoryFrom, lowBits, fitsMandatory, rowsWritten}
-use Rattle.definitions.specs.Values.{Octets, valueAt, present, sourceOf, octetsAt, goodValue, firstFrom}
+use Rattle.definitions.specs.Values.{Octets, mandatoryWidth, valueIn, present, sourceOf, octetsAt, goodValue, firstFrom}
 use Rattle.definitions.proofs.RowLaws.{both}
 use Rattle.promises.specs.RoundTrip.{AreOctets}
 use Rattle.promises.proofs.MandatoryReads.{Finds, nothing, one}
@@ -26,8 +26,8 @@ row-at (r ∷ t) zero e = (cc, cc)
 row-at (r ∷ t) (suc k) e = row-at t k e
 
 -- a row's three numbers, behind those of the rows before it
-value-at : (pre rest : List ℕ) (k a b c : ℕ) → length pre ≡ 3 * k → valueAt (pre ++ (a ∷ b ∷ c ∷ rest)) k ≡ record { source = a; start = b; size = c }
-unfolding valueAt
+value-at : (pre rest : List ℕ) (k a b c : ℕ) → length pre ≡ 3 * k → valueIn mandatoryWidth (pre ++ (a ∷ b ∷ c ∷ rest)) k ≡ record { source = a; start = b; size = c; iei = 0 }
+unfolding valueIn
 value-at pre rest k a b c l =
     let t : List ℕ = a ∷ b ∷ c ∷ rest in
     let z₀ : 3 * k ≡ length pre + 0 = omega arith in
@@ -44,13 +44,13 @@ module _ (part set rows : List ℕ) (t : List MandatoryRow) where
   octets = record { received = part; set = set }
 
   abbrev pub bad : ℕ → Bool
-  bad j = not (goodValue octets (valueAt rows j))
+  bad j = not (goodValue octets (valueIn mandatoryWidth rows j))
 
   abbrev pub gone : ℕ → Bool
-  gone j = not (present (valueAt rows j))
+  gone j = not (present (valueIn mandatoryWidth rows j))
 
   abbrev pub unfit : ℕ → Bool
-  unfit j = not (fitsMandatory (mandatoryForm (mandatoryRowAt t j)) (valueAt rows j .source) (octetsAt octets (valueAt rows j)))
+  unfit j = not (fitsMandatory (mandatoryForm (mandatoryRowAt t j)) (valueIn mandatoryWidth rows j .source) (octetsAt octets (valueIn mandatoryWidth rows j)))
 
   -- the rows from k on: written, they are the octets up to where they ended, and each passes the tests
   pub record Back (k at low : ℕ) (rs : List MandatoryRow) (s : List ℕ) (read : ℕ) : Type 0 where
@@ -62,8 +62,8 @@ module _ (part set rows : List ℕ) (t : List MandatoryRow) where
     pub none-unfit : firstFrom unfit k (length rs) ≡ none
 
   -- a received value that lies within the part
-  module _ (k at h n : ℕ) (s : List ℕ) (e : valueAt rows k ≡ record { source = 1; start = at + h; size = n }) (d : s ≡ drop at part) where
-    octets-are : octetsAt octets (valueAt rows k) ≡ take n (drop h s)
+  module _ (k at h n : ℕ) (s : List ℕ) (e : valueIn mandatoryWidth rows k ≡ record { source = 1; start = at + h; size = n; iei = 0 }) (d : s ≡ drop at part) where
+    octets-are : octetsAt octets (valueIn mandatoryWidth rows k) ≡ take n (drop h s)
     unfolding octetsAt sourceOf
     octets-are = rw (e, d) (ap (take n) (sym (drop-drop h at part)))
 
@@ -86,16 +86,16 @@ module _ (part set rows : List ℕ) (t : List MandatoryRow) where
       let z : at - at ≡ 0 = omega arith in
       record { reach = omega arith; end = w; writes = rw z; none-bad = refl; none-gone = refl; none-unfit = refl }
   back small {at = at} {read = read} {s = s} (one {h = h} {n = n} {took = took} {r = r} {rs = rs} {left = left} f g) k low after pre post q l d e w p a =
-      let v : valueAt rows k ≡ record { source = 1; start = at + h; size = n } = rw q (value-at pre (left ++ post) k 1 (at + h) n l) in
+      let v : valueIn mandatoryWidth rows k ≡ record { source = 1; start = at + h; size = n; iei = 0 } = rw q (value-at pre (left ++ post) k 1 (at + h) n l) in
       let c = row-at t k d in
       let m : (ltb k mostMandatory && goodMandatory after r rs) ≡ true = passing (ltb k mostMandatory && goodMandatory after r rs) p in
       let b : RowBack (mandatoryForm r) low s h n took = row-back (mandatoryForm r) low s (octets-of s e) (λ j. a (after-low after r rs (both (ltb k mostMandatory) (goodMandatory after r rs) m .1) j)) f in
-      let o : octetsAt octets (valueAt rows k) ≡ take n (drop h s) = octets-are k at h n s v e in
+      let o : octetsAt octets (valueIn mandatoryWidth rows k) ≡ take n (drop h s) = octets-are k at h n s v e in
       let x : drop took s ≡ drop (at + took) part = ap (drop took) e ∙ drop-drop took at part in
       let y : at + took ≤ length part = omega (arith, b .within, ap length e ∙ length-drop at part) in
       let u : rows ≡ (pre ++ (1 ∷ (at + h) ∷ n ∷ [])) ++ (left ++ post) = q ∙ sym (append-assoc pre (1 ∷ (at + h) ∷ n ∷ []) (left ++ post)) in
       let i =
-      back small g (suc k) (lowBits (getD (octetsAt octets (valueAt rows k)) 0 0)) (eqb (r .code) 0) (pre ++ (1 ∷ (at + h) ∷ n ∷ [])) post u (length-append pre (1 ∷ (at + h) ∷ n ∷ []) ∙ omega arith) (c .1) x y (rw m at p)
+      back small g (suc k) (lowBits (getD (octetsAt octets (valueIn mandatoryWidth rows k)) 0 0)) (eqb (r .code) 0) (pre ++ (1 ∷ (at + h) ∷ n ∷ [])) post u (length-append pre (1 ∷ (at + h) ∷ n ∷ []) ∙ omega arith) (c .1) x y (rw m at p)
       (λ z. rw o (b .waits (form-low r z))) in
       let sum : took + (read - (at + took)) ≡ read - at = omega (arith, i .reach) in
       let fit : unfit k ≡ false = rw (o, c .0, v) (ap not (b .fit)) in

@@ -1,4 +1,4 @@
--- What reading leaves of each place, read back out of the lent rows. A row is three numbers, so place k's stand at 3 k;
+-- What reading leaves of each place, read back out of the lent rows. A row is four numbers, so place k's stand at 4 k;
 -- of an accepted element they name its value in the part, which fits, and which encodes to the element's octets.
 use Prim.Native.Nat.{ℕ, zero, suc, _+_, _*_, _-_, _≤_, _<_}
 use native.Mathlib.Omega.{arith}
@@ -14,8 +14,9 @@ use Rattle.definitions.specs.Basic.{pick, bit, over}
 use Rattle.definitions.specs.Rows.{Row, Form, form, rowAt, ieiOf, placeOf, firstBad}
 use Rattle.definitions.specs.Length.{header, whole}
 use Rattle.definitions.specs.Elements.{Verdict, accepted, unknown, malformed, repeated, outOfSequence, Element, Met, isAccepted, isAt, taken, judged, octetsOf, known, stranger, including, meet}
+use Rattle.definitions.specs.Logs.{Placed, orderOf, orderList, orEmpty, ieiFor}
 use Rattle.definitions.specs.Reading.{received, placeRow, placeRowsFrom, placeRows}
-use Rattle.definitions.specs.Values.{Octets, Value, valueAt, present, sourceOf, octetsAt, goodValue, fits}
+use Rattle.definitions.specs.Values.{Octets, Value, valueIn, valueAt, present, sourceOf, octetsAt, goodValue, fits}
 use Rattle.definitions.specs.Writing.{elementAt}
 use Rattle.definitions.proofs.Steps.{Frames, whole-frames, front-octets, front-first, strange, placed, Reads, end, more}
 use Rattle.definitions.proofs.RowLaws.{listed}
@@ -26,37 +27,38 @@ use Rattle.promises.specs.RoundTrip.{AreOctets}
 -- ---- where a row stands
 
 abbrev pub asValue : List ℕ → Value
-asValue r = record { source = getD r 0 0; start = getD r 1 0; size = getD r 2 0 }
+asValue r = record { source = getD r 0 0; start = getD r 1 0; size = getD r 2 0; iei = getD r 3 0 }
 
-pub row-length : (t : List Row) (es : List Element) (k : ℕ) → length (placeRow t es k) ≡ 3
+pub row-length : (t : List Row) (ps : List Placed) (es : List Element) (k : ℕ) → length (placeRow t ps es k) ≡ 4
 unfolding placeRow received
-row-length t [] k = refl
-row-length t (e ∷ es) k = go (isAccepted (e .verdict) && isAt k e) (row-length t es k)
+row-length t ps [] k = refl
+row-length t ps (e ∷ es) k = go (isAccepted (e .verdict) && isAt k e) (row-length t ps es k)
   where
-    go : (b : Bool) → length (placeRow t es k) ≡ 3 → length (pick b (received t k e) (placeRow t es k)) ≡ 3
+    go : (b : Bool) → length (placeRow t ps es k) ≡ 4 → length (pick b (received t (ieiFor t ps k) k e) (placeRow t ps es k)) ≡ 4
     go true r = refl
     go false r = r
 
 -- number c of place j + i's row
-row-at : (t : List Row) (es : List Element) (z : List ℕ) (c : ℕ) → c < 3 → (j n i x : ℕ) → i < n → x ≡ 3 * i + c
-    → getD (placeRowsFrom t es j n ++ z) x 0 ≡ getD (placeRow t es (j + i)) c 0
+row-at : (t : List Row) (ps : List Placed) (es : List Element) (z : List ℕ) (c : ℕ) → c < 4 → (j n i x : ℕ) → i < n → x ≡ 4 * i + c
+    → getD (placeRowsFrom t ps es j n ++ z) x 0 ≡ getD (placeRow t ps es (j + i)) c 0
 unfolding placeRowsFrom
-row-at t es z c h j zero i x l e = absurd (omega arith)
-row-at t es z c h j (suc n) zero x l e =
+row-at t ps es z c h j zero i x l e = absurd (omega arith)
+row-at t ps es z c h j (suc n) zero x l e =
     let a : x ≡ c = omega arith in
     let b : j + 0 ≡ j = omega arith in
-    rw (append-assoc, a, b) (List·getD-append (placeRow t es j) (placeRowsFrom t es (suc j) n ++ z) 0 c (omega (arith, row-length t es j)))
-row-at t es z c h j (suc n) (suc i) x l e =
-    let a : x ≡ length (placeRow t es j) + (3 * i + c) = omega (arith, row-length t es j) in
+    rw (append-assoc, a, b) (List·getD-append (placeRow t ps es j) (placeRowsFrom t ps es (suc j) n ++ z) 0 c (omega (arith, row-length t ps es j)))
+row-at t ps es z c h j (suc n) (suc i) x l e =
+    let a : x ≡ length (placeRow t ps es j) + (4 * i + c) = omega (arith, row-length t ps es j) in
     let b : j + suc i ≡ suc j + i = omega arith in
-    rw (append-assoc, a, b, getD-append-add) (row-at t es z c h (suc j) n i (3 * i + c) (omega arith) refl)
+    rw (append-assoc, a, b, getD-append-add) (row-at t ps es z c h (suc j) n i (4 * i + c) (omega arith) refl)
 
-pub row-value : (t : List Row) (es : List Element) (l : List ℕ) (k : ℕ) → k < length t → valueAt (over (placeRows t es) l) k ≡ asValue (placeRow t es k)
-unfolding over placeRows valueAt
+pub row-value : (t : List Row) (es : List Element) (l : List ℕ) (k : ℕ) → k < length t → valueAt (over (placeRows t es) l) k ≡ asValue (placeRow t (orEmpty (orderList (orderOf t es))) es k)
+unfolding over placeRows valueIn
 row-value t es l k h =
-    let at : (c x : ℕ) → c < 3 → x ≡ 3 * k + c → getD (over (placeRows t es) l) x 0 ≡ getD (placeRow t es k) c 0 =
-    λ c x d e. let z : 0 + k ≡ k = omega arith in rw z at (row-at t es (drop (length (placeRows t es)) l) c d 0 (length t) k x h e) in
-    rw (at 0 (3 * k) (omega arith) (omega arith), at 1 (3 * k + 1) (omega arith) refl, at 2 (3 * k + 2) (omega arith) refl)
+    let ps : List Placed = orEmpty (orderList (orderOf t es)) in
+    let at : (c x : ℕ) → c < 4 → x ≡ 4 * k + c → getD (over (placeRows t es) l) x 0 ≡ getD (placeRow t ps es k) c 0 =
+    λ c x d e. let z : 0 + k ≡ k = omega arith in rw z at (row-at t ps es (drop (length (placeRows t es)) l) c d 0 (length t) k x h e) in
+    rw (at 0 (4 * k) (omega arith) (omega arith), at 1 (4 * k + 1) (omega arith) refl, at 2 (4 * k + 2) (omega arith) refl, at 3 (4 * k + 3) (omega arith) refl)
 
 -- ---- an accepted element
 
@@ -105,22 +107,22 @@ abbrev pub Sane : List Row → Octets → ℕ → Value → Type 0
 Sane t o k v = (goodValue o v ≡ true) × ((present v && not (fits (form (rowAt t k)) (v .source) (octetsAt o v))) ≡ false)
 
 module _ (t : List Row) (part set : List ℕ) (at : ℕ) (o : List ℕ) (iei k : ℕ) (w : Whole t part at o iei k) where
-  abbrev pub valueOf : Value
-  valueOf = record { source = 1; start = at + header (form (rowAt t k)); size = length o - header (form (rowAt t k)) }
+  abbrev pub valueOf : ℕ → Value
+  valueOf own = record { source = 1; start = at + header (form (rowAt t k)); size = length o - header (form (rowAt t k)); iei = own }
 
   abbrev pub sources : Octets
   sources = record { received = part; set = set }
 
-  pub whole-sane : Sane t sources k valueOf
+  pub whole-sane : (own : ℕ) → Sane t sources k (valueOf own)
   unfolding goodValue present sourceOf octetsAt
-  whole-sane =
+  whole-sane own =
       let h : ℕ = header (form (rowAt t k)) in
       (le-leb (at + h + (length o - h)) (length part) (omega (arith, w .ends, w .headed)), rw (w .value, w .restores .0))
 
   -- its element is written as its octets
-  pub whole-written : (rows : List ℕ) → valueAt rows k ≡ valueOf → elementAt (record { table = t; rows = rows; octets = sources }) k iei ≡ o
+  pub whole-written : (rows : List ℕ) (own : ℕ) → valueAt rows k ≡ valueOf own → elementAt (record { table = t; rows = rows; octets = sources }) k iei ≡ o
   unfolding elementAt present sourceOf octetsAt
-  whole-written rows e = rw (e, w .value, w .restores .1)
+  whole-written rows own e = rw (e, w .value, w .restores .1)
 
 -- ---- the elements of a part, as writing needs them
 

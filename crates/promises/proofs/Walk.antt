@@ -7,38 +7,39 @@ use mathlib.Core.List.{List, [], _∷_, _++_, map}
 use mathlib.Core.Option.{Option, none, some}
 use mathlib.Core.Bool.{Bool, true, false, _&&_, _||_, not, true≢false}
 use lib.ListN.{length, getD}
-use lib.Dec.{leb, eqb}
-use borrow.Author.Tests.{le-leb, leb-true, eqb-true, eqb-false, eq-eqb, ne-eqb}
+use lib.Dec.{eqb}
+use borrow.Author.Tests.{le-leb, eqb-true, eqb-false, eq-eqb, ne-eqb}
 use Rattle.definitions.specs.Basic.{pick, bit, among, concat}
 use Rattle.definitions.specs.Rows.{Row, ieiOf, placeOf, firstIei}
 use Rattle.definitions.specs.Elements.{Verdict, accepted, unknown, malformed, repeated, outOfSequence, Element, isAccepted, isAt, ieiAt}
-use Rattle.definitions.specs.Logs.{Placed, knownIei, placedOf, plainFrom}
+use Rattle.definitions.specs.Logs.{Placed, knownIei, placedOf, plainFrom, ieiFor, plainAt}
 use Rattle.definitions.specs.Reading.{received, placeRow}
 use Rattle.definitions.specs.Values.{Octets, valueAt, present, goodValue}
 use Rattle.definitions.specs.Writing.{Filled, elementAt, logged, addedFrom, below, notBelow, firsts, walked}
 use Rattle.definitions.proofs.LogLaws.{asideOf}
 use Rattle.definitions.proofs.RowLaws.{both}
+use Rattle.definitions.proofs.PlainLaws.{plain-said}
 use Rattle.promises.specs.Joined.{joined}
 use Rattle.promises.proofs.Rows.{asValue, Sane, whole-sane, whole-written, element, Told, over-all, aside, taken-in, not-in}
 
-module _ (t : List Row) (part set : List ℕ) where
+module _ (t : List Row) (log : List Placed) (part set : List ℕ) where
   abbrev sources : Octets
   sources = record { received = part; set = set }
 
   -- every row of a place is in order
-  pub rows-sane : {n : ℕ} {es : List Element} → Told t part n es → (k : ℕ) → Sane t sources k (asValue (placeRow t es k))
+  pub rows-sane : {n : ℕ} {es : List Element} → Told t part n es → (k : ℕ) → Sane t sources k (asValue (placeRow t log es k))
   unfolding placeRow goodValue present isAccepted isAt received
   rows-sane over-all k = (refl, refl)
   rows-sane (aside {p = p} {v = v} {es = es} h g r) k = rw h (rows-sane r k)
   rows-sane (taken-in {at = at} {k = j} {o = o} {es = es} h w r) k = go (eqb j k) refl (rows-sane r k)
     where
-      go : (b : Bool) → eqb j k ≡ b → Sane t sources k (asValue (placeRow t es k)) → Sane t sources k (asValue (pick b (received t k (element at o (some j) accepted)) (placeRow t es k)))
-      go true e r = rw (sym (eqb-true j k e)) (whole-sane t part set at o (ieiOf (getD o 0 0)) j w)
+      go : (b : Bool) → eqb j k ≡ b → Sane t sources k (asValue (placeRow t log es k)) → Sane t sources k (asValue (pick b (received t (ieiFor t log k) k (element at o (some j) accepted)) (placeRow t log es k)))
+      go true e r = rw (sym (eqb-true j k e)) (whole-sane t part set at o (ieiOf (getD o 0 0)) j w (ieiFor t log j))
       go false e r = r
 
 -- ---- with an order log
 
-module _ (t : List Row) (part : List ℕ) where
+module _ (t : List Row) (log : List Placed) (part : List ℕ) where
   skip : (at : ℕ) (o : List ℕ) (p : Option ℕ) (v : Verdict) (ps : List Placed) → isAccepted v ≡ false → logged t (placedOf (element at o p v) ∷ ps) ≡ logged t ps
   unfolding logged placedOf isAccepted
   skip at o p accepted ps h = absurd (true≢false h)
@@ -52,14 +53,14 @@ module _ (t : List Row) (part : List ℕ) where
   logged-known i k ps e = rw (e, logged)
 
   -- a place with a row is one of the order log
-  pub present-logged : {n : ℕ} {es : List Element} → Told t part n es → (k : ℕ) → present (asValue (placeRow t es k)) ≡ true → among k (logged t (map placedOf es)) ≡ true
+  pub present-logged : {n : ℕ} {es : List Element} → Told t part n es → (k : ℕ) → present (asValue (placeRow t log es k)) ≡ true → among k (logged t (map placedOf es)) ≡ true
   unfolding placeRow present isAccepted isAt logged placedOf among ieiAt
   present-logged over-all k q = cc
   present-logged (aside {at = at} {o = o} {p = p} {v = v} {es = es} h g r) k q = rw (skip at o p v (map placedOf es) h) (present-logged r k (rw h at q))
   present-logged (taken-in {at = at} {k = j} {o = o} {es = es} h w r) k q = rw (logged-known (ieiOf (getD o 0 0)) j (map placedOf es) (w .listed)) (go (eqb j k) (eqb k j) refl refl q (λ q. present-logged r k q))
     where
-      go : (b c : Bool) → eqb j k ≡ b → eqb k j ≡ c → present (asValue (pick b (received t k (element at o (some j) accepted)) (placeRow t es k))) ≡ true
-          → (present (asValue (placeRow t es k)) ≡ true → among k (logged t (map placedOf es)) ≡ true) → (c || among k (logged t (map placedOf es))) ≡ true
+      go : (b c : Bool) → eqb j k ≡ b → eqb k j ≡ c → present (asValue (pick b (received t (ieiFor t log k) k (element at o (some j) accepted)) (placeRow t log es k))) ≡ true
+          → (present (asValue (placeRow t log es k)) ≡ true → among k (logged t (map placedOf es)) ≡ true) → (c || among k (logged t (map placedOf es))) ≡ true
       go b true e d q r = refl
       go true false e d q r = absurd (eqb-false k j d (sym (eqb-true j k e)))
       go false false e d q r = r q
@@ -95,21 +96,21 @@ module _ (t : List Row) (part : List ℕ) where
   walked-aside m at o p outOfSequence ps kept h = refl
 
   -- the row of an accepted element's place, and the rows of the others
-  row-here : (j at : ℕ) (o : List ℕ) (es : List Element) → placeRow t (element at o (some j) accepted ∷ es) j ≡ received t j (element at o (some j) accepted)
+  row-here : (j at : ℕ) (o : List ℕ) (es : List Element) → placeRow t log (element at o (some j) accepted ∷ es) j ≡ received t (ieiFor t log j) j (element at o (some j) accepted)
   unfolding placeRow isAccepted isAt
   row-here j at o es = rw (eq-eqb j j refl)
 
-  row-there : (j k at : ℕ) (o : List ℕ) (es : List Element) → (j ≡ k → ⊥) → placeRow t (element at o (some j) accepted ∷ es) k ≡ placeRow t es k
+  row-there : (j k at : ℕ) (o : List ℕ) (es : List Element) → (j ≡ k → ⊥) → placeRow t log (element at o (some j) accepted ∷ es) k ≡ placeRow t log es k
   unfolding placeRow isAccepted isAt
   row-there j k at o es d = rw (ne-eqb j k d)
 
-  row-aside : (k at : ℕ) (o : List ℕ) (p : Option ℕ) (v : Verdict) (es : List Element) → isAccepted v ≡ false → placeRow t (element at o p v ∷ es) k ≡ placeRow t es k
+  row-aside : (k at : ℕ) (o : List ℕ) (p : Option ℕ) (v : Verdict) (es : List Element) → isAccepted v ≡ false → placeRow t log (element at o p v ∷ es) k ≡ placeRow t log es k
   unfolding placeRow
   row-aside k at o p v es h = rw h
 
   -- each entry writes its element
   pub walk-entries : (set rows : List ℕ) {n : ℕ} {es : List Element} → Told t part n es
-      → ((k : ℕ) → k < length t → bit k n ≡ false → valueAt rows k ≡ asValue (placeRow t es k)) → walked (filled set rows) (map placedOf es) [] (asideOf es) ≡ joined es
+      → ((k : ℕ) → k < length t → bit k n ≡ false → valueAt rows k ≡ asValue (placeRow t log es k)) → walked (filled set rows) (map placedOf es) [] (asideOf es) ≡ joined es
   unfolding walked asideOf joined concat firsts placedOf ieiAt isAccepted received below notBelow
   walk-entries set rows over-all e = refl
   walk-entries set rows (aside {at = at} {o = o} {p = p} {v = v} {es = es} h g r) e =
@@ -117,7 +118,7 @@ module _ (t : List Row) (part : List ℕ) where
       rw (walked-aside (filled set rows) at o p v (map placedOf es) (asideOf es) h, i)
   walk-entries set rows (taken-in {n = n} {at = at} {k = j} {o = o} {es = es} h w r) e =
       let i = walk-entries set rows r (λ k l b. let c = not-in k j n b in rw (row-there j k at o es (λ d. eqb-false k j (c .0) (sym d))) at (e k l (c .1))) in
-      let a = whole-written t part set at o (ieiOf (getD o 0 0)) j w rows (rw (row-here j at o es) at (e j (w .inside) h)) in
+      let a = whole-written t part set at o (ieiOf (getD o 0 0)) j w rows (ieiFor t log j) (rw (row-here j at o es) at (e j (w .inside) h)) in
       rw (walked-known (filled set rows) (ieiOf (getD o 0 0)) j (map placedOf es) [] (asideOf es) (w .listed), a, i)
 
   -- ---- without one
@@ -125,14 +126,15 @@ module _ (t : List Row) (part : List ℕ) where
   -- what an accepted element says where every element is accepted, in table order, under first IEIs
   plain-first : (least at j : ℕ) (o : List ℕ) (es : List Element) → plainFrom t least (element at o (some j) accepted ∷ es) ≡ true
       → (least ≤ j) × (ieiOf (getD o 0 0) ≡ firstIei t j) × (plainFrom t (suc j) es ≡ true)
-  unfolding plainFrom isAccepted ieiAt
+  unfolding plainFrom ieiAt
   plain-first least at j o es h =
-      let a = both (leb least j) (eqb (ieiOf (getD o 0 0)) (firstIei t j) && plainFrom t (suc j) es) h in
-      let b = both (eqb (ieiOf (getD o 0 0)) (firstIei t j)) (plainFrom t (suc j) es) (a .1) in
-      (leb-true least j (a .0), eqb-true (ieiOf (getD o 0 0)) (firstIei t j) (b .0), b .1)
+      let e : Element = element at o (some j) accepted in
+      let a = both (plainAt t least j e) (plainFrom t (suc j) es) h in
+      let f = plain-said t least j e (a .0) in
+      (f .above, f .first, a .1)
 
   plain-aside : (least at : ℕ) (o : List ℕ) (p : Option ℕ) (v : Verdict) (es : List Element) → isAccepted v ≡ false → plainFrom t least (element at o p v ∷ es) ≡ true → ⊥
-  unfolding plainFrom
+  unfolding plainFrom plainAt
   plain-aside least at o none v es h q = true≢false (sym q)
   plain-aside least at o (some k) v es h q = true≢false (sym (rw h at q))
 
@@ -144,7 +146,7 @@ module _ (t : List Row) (part : List ℕ) where
   plain-kept (taken-in {at = at} {k = j} {o = o} {es = es} h w r) least q = plain-kept r (suc j) (plain-first least at j o es q .2)
 
   -- no place below the least has a row
-  plain-none : {n : ℕ} {es : List Element} → Told t part n es → (least k : ℕ) → plainFrom t least es ≡ true → k < least → present (asValue (placeRow t es k)) ≡ false
+  plain-none : {n : ℕ} {es : List Element} → Told t part n es → (least k : ℕ) → plainFrom t least es ≡ true → k < least → present (asValue (placeRow t log es k)) ≡ false
   unfolding present placeRow
   plain-none over-all least k q l = refl
   plain-none (aside {at = at} {o = o} {p = p} {v = v} {es = es} h g r) least k q l = absurd (plain-aside least at o p v es h q)
@@ -165,13 +167,12 @@ module _ (t : List Row) (part : List ℕ) where
 
   plain-again : (least later at j : ℕ) (o : List ℕ) (es : List Element) → later ≤ j → plainFrom t least (element at o (some j) accepted ∷ es) ≡ true
       → plainFrom t later (element at o (some j) accepted ∷ es) ≡ true
-  unfolding plainFrom isAccepted ieiAt
-  plain-again least later at j o es l h =
-      rw (le-leb later j l) (both (leb least j) (eqb (ieiOf (getD o 0 0)) (firstIei t j) && plainFrom t (suc j) es) h .1)
+  unfolding plainFrom plainAt isAccepted ieiAt
+  plain-again least later at j o es l h = let f = plain-first least at j o es h in rw (le-leb later j l, eq-eqb (ieiOf (getD o 0 0)) (firstIei t j) (f .1)) (f .2)
 
   -- the c places from j on write the elements from there on
   pub walk-plain : (set rows : List ℕ) (c : ℕ) {n : ℕ} {es : List Element} → Told t part n es → (j : ℕ) → plainFrom t j es ≡ true → j + c ≡ length t
-      → ((k : ℕ) → j ≤ k → k < length t → valueAt rows k ≡ asValue (placeRow t es k)) → plainly set rows j c ≡ joined es
+      → ((k : ℕ) → j ≤ k → k < length t → valueAt rows k ≡ asValue (placeRow t log es k)) → plainly set rows j c ≡ joined es
   unfolding addedFrom firsts joined placeRow present received plainFrom
   walk-plain set rows zero over-all j q l e = refl
   walk-plain set rows zero (aside {at = at} {o = o} {p = p} {v = v} {es = es} h g r) j q l e = absurd (plain-aside j at o p v es h q)
@@ -187,11 +188,11 @@ module _ (t : List Row) (part : List ℕ) where
       f : (j ≤ k) × (ieiOf (getD o 0 0) ≡ firstIei t k) × (plainFrom t (suc k) es ≡ true)
       f = plain-first j at k o es q
 
-      v : valueAt rows k ≡ asValue (received t k (element at o (some k) accepted))
+      v : valueAt rows k ≡ asValue (received t (ieiFor t log k) k (element at o (some k) accepted))
       v = rw (row-here k at o es) at (e k (f .0) (w .inside))
 
       w′ : elementAt (filled set rows) k (firstIei t k) ≡ o
-      w′ = rw (f .1) at (whole-written t part set at o (ieiOf (getD o 0 0)) k w rows v)
+      w′ = rw (f .1) at (whole-written t part set at o (ieiOf (getD o 0 0)) k w rows (ieiFor t log k) v)
 
       go : (b : Bool) → eqb k j ≡ b → (k ≡ j → plainly set rows (suc j) c ≡ joined es) → (j < k → plainly set rows (suc j) c ≡ o ++ joined es)
           → plainly set rows j (suc c) ≡ o ++ joined es

@@ -33,17 +33,17 @@ pub used-within : (a b : List ℕ) {k : ℕ} {c : List ℕ} → k ≡ length a �
 unfolding over
 used-within a b e q = omega (arith, e, ap length q ∙ length-append a (drop (length a) b))
 
-module _ (t : List Row) (passes : firstBad t ≡ none) (start : ℕ) (option : Bool) (part : List ℕ) (w : ℕ) (fits : 3 * length t ≤ w) where
-  copied : (es : List Element) → parted t start option part ≡ elements es → take (3 * length t) (enteredAll t es (replicate w 0)) ≡ placeRows t es
+module _ (t : List Row) (passes : firstBad t ≡ none) (start : ℕ) (option : Bool) (part : List ℕ) (w : ℕ) (fits : 4 * length t ≤ w) where
+  copied : (es : List Element) → parted t start option part ≡ elements es → take (4 * length t) (enteredAll t es (replicate w 0)) ≡ placeRows t es
   copied es e =
-      ap (λ (x : List ℕ). take (3 * length t) (enteredAll t es x)) (sym (zeros-over (3 * length t) w fits))
-      ∙ ap (take (3 * length t)) (all-entered t passes start option part es e (replicate w 0))
-      ∙ front-is (placeRows t es) (replicate w 0) (3 * length t) (rows-length t es)
+      ap (λ (x : List ℕ). take (4 * length t) (enteredAll t es x)) (sym (zeros-over (4 * length t) w fits))
+      ∙ ap (take (4 * length t)) (all-entered t passes start option part es e (replicate w 0))
+      ∙ front-is (placeRows t es) (replicate w 0) (4 * length t) (rows-length t es)
 
   abbrev p : Parted
   p = parted t start option part
 
-  module _ (n : ℕ) (n-is : n ≡ 3 * length t) (rows found : List ℕ) where
+  module _ (n : ℕ) (n-is : n ≡ 4 * length t) (rows found : List ℕ) where
     pub plainly : some found ≡ plainRows t 0 p (replicate w 0) → {rows′ : List ℕ} → rows′ ≡ over (take n found) rows → Plainly t p true rows rows′
     unfolding elementsOf
     plainly e {rows′ = rows′} q = by p refl e
@@ -68,7 +68,7 @@ module _ (t : List Row) (passes : firstBad t ≡ none) (start : ℕ) (option : B
       by (cutShort a x m q) f = refl
 
   -- every element entered among zeros, with the octets used of each log, and copied out
-  pub written : (n : ℕ) → n ≡ 3 * length t → {k o : ℕ} {rows kept order kept₀ order₀ found aside entries rows′ kept′ order′ : List ℕ} → Entered t p k o (replicate w 0) kept₀ order₀ found aside entries
+  pub written : (n : ℕ) → n ≡ 4 * length t → {k o : ℕ} {rows kept order kept₀ order₀ found aside entries rows′ kept′ order′ : List ℕ} → Entered t p k o (replicate w 0) kept₀ order₀ found aside entries
       → rows′ ≡ over (take n found) rows → kept′ ≡ over (take k aside) kept → order′ ≡ over (take o entries) order → Written t (elementsOf p) rows kept order rows′ kept′ order′
   written n n-is {k} {o} {rows} {kept} {order} {kept₀} {order₀} e a b c =
       record {

@@ -56,7 +56,7 @@ notes-cons e es = by (e .verdict) (e .at) (e .octets) (e .place)
 record Fit (t : List Row) (rows : List ℕ) (o : Option ℕ) (at len : ℕ) : Type 0 where
   place : ℕ
   has : o ≡ some place
-  inside : 3 * place + 3 ≤ length rows
+  inside : 4 * place + 4 ≤ length rows
   headed : header (form (rowAt t place)) ≤ len
   short : at + len < 65536
 
@@ -73,7 +73,7 @@ unfolding rowEntered
 entered-long t e rows = by (e .placed)
   where
     by : (p : Placed) → RowFitsBy t (e .place) (e .start) (e .len) rows p → length (rowBy t (e .place) (e .start) (e .len) rows p) ≡ length rows
-    by (Placed.Known i) f = length-overAt (3 * e .place) (1 ∷ _ ∷ _ ∷ []) rows (f .0)
+    by (Placed.Known i) f = length-overAt (4 * e .place) (1 ∷ _ ∷ _ ∷ i ∷ []) rows (f .0)
     by Placed.Unknown f = refl
     by (Placed.Ignored r) f = refl
 

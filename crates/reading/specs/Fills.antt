@@ -25,7 +25,7 @@ abbrev pub before : List Row → ℕ → ℕ
 before t place = header (form (rowAt t place))
 
 abbrev pub rowBy : List Row → ℕ → ℕ → ℕ → List ℕ → Placed → List ℕ
-rowBy t place start len rows (Placed.Known iei) = overAt (3 * place) (1 ∷ (start + before t place) ∷ (len - before t place) ∷ []) rows
+rowBy t place start len rows (Placed.Known iei) = overAt (4 * place) (1 ∷ (start + before t place) ∷ (len - before t place) ∷ iei ∷ []) rows
 rowBy t place start len rows Placed.Unknown = rows
 rowBy t place start len rows (Placed.Ignored r) = rows
 
@@ -34,7 +34,7 @@ rowEntered t e rows = rowBy t (e .place) (e .start) (e .len) rows (e .placed)
 
 -- an accepted element's row is there, and its numbers are of 32 bits
 abbrev pub RowFitsBy : List Row → ℕ → ℕ → ℕ → List ℕ → Placed → Type 0
-RowFitsBy t place start len rows (Placed.Known iei) = (3 * place + 3 ≤ length rows) × (before t place ≤ len) × (start + len < 65536)
+RowFitsBy t place start len rows (Placed.Known iei) = (4 * place + 4 ≤ length rows) × (before t place ≤ len) × (start + len < 65536)
 RowFitsBy t place start len rows Placed.Unknown = Unit
 RowFitsBy t place start len rows (Placed.Ignored r) = Unit
 
@@ -91,7 +91,7 @@ pub record Ready (table index : List ℕ) (start : ℕ) (option : Bool) (part ro
   pub indexed : Indexed table index
   pub passes : firstBad (rowsOf table) ≡ none
   pub short : length part ≤ 65535
-  pub rows-room : 3 * length (rowsOf table) ≤ length rows
+  pub rows-room : 4 * length (rowsOf table) ≤ length rows
   pub room : Room (parted (rowsOf table) start option part) (length part) 0 0 (length kept) (length order)
 
 -- what is written of a part that decodes: the rows of its places, and both logs

@@ -28,7 +28,7 @@ pub record Fits (table index part : List ℕ) (n : ℕ) : Type 0 where
   pub indexed : Indexed table index
   pub passes : firstBad (rowsOf table) ≡ none
   pub short : length part ≤ 65535
-  pub room : 3 * length (rowsOf table) ≤ n
+  pub room : 4 * length (rowsOf table) ≤ n
 
 -- the answer for a part, and the rows at exit
 pub record Plainly (t : List Row) (p : Parted) (r : Bool) (rows rows′ : List ℕ) : Type 0 where

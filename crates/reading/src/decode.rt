@@ -71,7 +71,7 @@ fn decode_by_index(
     if octets.len() > MOST_OCTETS {
         return Decoded::TooLong;
     }
-    let n = 3 * places(table);
+    let n = 4 * places(table);
     if rows.len() < n {
         return Decoded::NoRoom(Room::Rows);
     }
@@ -103,7 +103,7 @@ fn decode_elements(
     kept: &mut [u8],
     order: &mut [u8],
 ) -> Decoded
-    requires { ⌜ Fits (now table) (now index) (now octets) (length (now rows)) × (plainIn (rowsOf (now table)) 0 (parted (rowsOf (now table)) «tlve_start» option (now octets)) ≡ false) × (n ≡ 3 * length (rowsOf (now table))) ⌝ }
+    requires { ⌜ Fits (now table) (now index) (now octets) (length (now rows)) × (plainIn (rowsOf (now table)) 0 (parted (rowsOf (now table)) «tlve_start» option (now octets)) ≡ false) × (n ≡ 4 * length (rowsOf (now table))) ⌝ }
     ensures { λ r. ⌜ Reads (reading (now (table .entry)) «tlve_start» option (now (octets .entry)) (lentOf (now (rows .entry)) (now (kept .entry)) (now (order .entry)))) r (now (rows .exit)) (now (kept .exit)) (now (order .exit)) ⌝ }
 {
     if octets.len() <= MOST_SHORT {

@@ -32,7 +32,7 @@ ghost use Rattle.rows.specs.Numbers.{Whole};
 ghost use Rattle.reading.specs.Fills.{RowFits, rowEntered, keptOfFound, outcome, filledFrom, Ready, Written};
 
 // No number in the first n.
-fn clear_rows(rows: &mut [u32], n: usize)
+pub(crate) fn clear_rows(rows: &mut [u32], n: usize)
     requires { ⌜ n ≤ length (now rows) ⌝ }
     ensures { λ r. ⌜ now (rows .exit) ≡ over (replicate n 0) (now (rows .entry)) ⌝ }
 {
@@ -43,18 +43,19 @@ fn clear_rows(rows: &mut [u32], n: usize)
     }
 }
 
-// Three numbers of a row from a position on.
-pub(crate) fn set_row(rows: &mut [u32], at: usize, start: u32, len: u32)
-    requires { ⌜ at + 3 ≤ length (now rows) ⌝ }
-    ensures { λ r. ⌜ now (rows .exit) ≡ overAt at (1 ∷ start ∷ len ∷ []) (now (rows .entry)) ⌝ }
+// Four numbers of a row from a position on.
+pub(crate) fn set_row(rows: &mut [u32], at: usize, start: u32, len: u32, iei: u32)
+    requires { ⌜ at + 4 ≤ length (now rows) ⌝ }
+    ensures { λ r. ⌜ now (rows .exit) ≡ overAt at (1 ∷ start ∷ len ∷ iei ∷ []) (now (rows .entry)) ⌝ }
 {
     rows[at] = 1;
     rows[at + 1] = start;
     rows[at + 2] = len;
+    rows[at + 3] = iei;
 }
 
-// The row of an accepted element: received, and where its value is.
-fn enter_row(rows: &mut [u32], table: &[u32], e: Element)
+// The row of an accepted element: received, where its value is, and its IEI.
+pub(crate) fn enter_row(rows: &mut [u32], table: &[u32], e: Element)
     requires { ⌜ Whole (now table) × RowFits (rowsOf (now table)) e (now rows) ⌝ }
     ensures { λ r. ⌜ now (rows .exit) ≡ rowEntered (rowsOf (now (table .entry))) e (now (rows .entry)) ⌝ }
 {
@@ -63,10 +64,16 @@ fn enter_row(rows: &mut [u32], table: &[u32], e: Element)
     let start = e.start;
     let len = e.len;
     match placed {
-        Placed::Known(_) => {
+        Placed::Known(iei) => {
             let row = numbers_at(table, place);
             let h = header(form_of(row.code, row.size));
-            set_row(rows, 3 * place, (start + h) as u32, (len - h) as u32);
+            set_row(
+                rows,
+                4 * place,
+                (start + h) as u32,
+                (len - h) as u32,
+                iei as u32,
+            );
         }
         Placed::Unknown => {}
         Placed::Ignored(_) => {}
@@ -89,7 +96,7 @@ fn keep(octets: &[u8], e: Element, kept: &mut [u8], used: usize) -> usize
 }
 
 // The octets of an element behind their count; the octets then used. One octet, as many elements have, is stored here.
-fn keep_octets(element: &[u8], kept: &mut [u8], used: usize) -> usize
+pub(crate) fn keep_octets(element: &[u8], kept: &mut [u8], used: usize) -> usize
     requires { ⌜ (1 ≤ length (now element)) × (length (now element) ≤ 65535) × (used + length (keptEntry (now element)) ≤ length (now kept)) ⌝ }
     ensures { λ r. ⌜ (r ≡ used + length (keptEntry (now (element .entry)))) × (now (kept .exit) ≡ overAt used (keptEntry (now (element .entry))) (now (kept .entry))) ⌝ }
 {
@@ -102,7 +109,7 @@ fn keep_octets(element: &[u8], kept: &mut [u8], used: usize) -> usize
 }
 
 // How an element came, into the rest of the order log; the octets then used.
-fn note(placed: Placed, order: &mut [u8], used: usize) -> usize
+pub(crate) fn note(placed: Placed, order: &mut [u8], used: usize) -> usize
     requires { ⌜ used + length (orderEntry (placedAs placed)) ≤ length (now order) ⌝ }
     ensures { λ r. ⌜ (r ≡ used + length (orderEntry (placedAs placed))) × (now (order .exit) ≡ overAt used (orderEntry (placedAs placed)) (now (order .entry))) ⌝ }
 {
@@ -185,6 +192,6 @@ pub(crate) fn fill(
     requires { ⌜ Ready (now table) (now index) «tlve_start» option (now octets) (now rows) (now kept) (now order) × (parted (rowsOf (now table)) «tlve_start» option (now octets) ≡ elements (elementsOf (parted (rowsOf (now table)) «tlve_start» option (now octets)))) ⌝ }
     ensures { λ r. ⌜ Written (rowsOf (now (table .entry))) (elementsOf (parted (rowsOf (now (table .entry))) «tlve_start» option (now (octets .entry)))) (now (rows .entry)) (now (kept .entry)) (now (order .entry)) (now (rows .exit)) (now (kept .exit)) (now (order .exit)) ⌝ }
 {
-    clear_rows(rows, 3 * places(table));
+    clear_rows(rows, 4 * places(table));
     fill_elements(octets, table, index, tlve_start, option, rows, kept, order);
 }

@@ -44,7 +44,7 @@ fn plain_pass(octets: &[u8], table: &[u32], index: &[u8; 256], found: &mut [u32]
         }
         let n = fit.len;
         let h = header(form_of(row.code, row.size));
-        set_row(found, 3 * place, (at + h) as u32, (n - h) as u32);
+        set_row(found, 4 * place, (at + h) as u32, (n - h) as u32, row.first);
         least = place + 1;
         at += n;
     }
@@ -66,10 +66,10 @@ pub(crate) fn copy_rows(rows: &mut [u32], found: &[u32], n: usize)
 // ---- the rows are found in an array of one of three lengths, since it is cleared at each call
 
 fn plain_few(octets: &[u8], table: &[u32], index: &[u8; 256], n: usize, rows: &mut [u32]) -> bool
-    requires { ⌜ Fits (now table) (now index) (now octets) n × (n ≡ 3 * length (rowsOf (now table))) × (n ≤ 48) × (n ≤ length (now rows)) ⌝ }
+    requires { ⌜ Fits (now table) (now index) (now octets) n × (n ≡ 4 * length (rowsOf (now table))) × (n ≤ 64) × (n ≤ length (now rows)) ⌝ }
     ensures { λ r. ⌜ ((start : ℕ) (option : Bool) → Plainly (rowsOf (now (table .entry))) (parted (rowsOf (now (table .entry))) start option (now (octets .entry))) r (now (rows .entry)) (now (rows .exit))) ⌝ }
 {
-    let mut found = [0u32; 48];
+    let mut found = [0u32; 64];
     if plain_pass(octets, table, index, &mut found) {
         copy_rows(rows, &found, n);
         return true;
@@ -78,10 +78,10 @@ fn plain_few(octets: &[u8], table: &[u32], index: &[u8; 256], n: usize, rows: &m
 }
 
 fn plain_more(octets: &[u8], table: &[u32], index: &[u8; 256], n: usize, rows: &mut [u32]) -> bool
-    requires { ⌜ Fits (now table) (now index) (now octets) n × (n ≡ 3 * length (rowsOf (now table))) × (n ≤ 120) × (n ≤ length (now rows)) ⌝ }
+    requires { ⌜ Fits (now table) (now index) (now octets) n × (n ≡ 4 * length (rowsOf (now table))) × (n ≤ 160) × (n ≤ length (now rows)) ⌝ }
     ensures { λ r. ⌜ ((start : ℕ) (option : Bool) → Plainly (rowsOf (now (table .entry))) (parted (rowsOf (now (table .entry))) start option (now (octets .entry))) r (now (rows .entry)) (now (rows .exit))) ⌝ }
 {
-    let mut found = [0u32; 120];
+    let mut found = [0u32; 160];
     if plain_pass(octets, table, index, &mut found) {
         copy_rows(rows, &found, n);
         return true;
@@ -89,11 +89,17 @@ fn plain_more(octets: &[u8], table: &[u32], index: &[u8; 256], n: usize, rows: &
     false
 }
 
-fn plain_many(octets: &[u8], table: &[u32], index: &[u8; 256], n: usize, rows: &mut [u32]) -> bool
-    requires { ⌜ Fits (now table) (now index) (now octets) n × (n ≡ 3 * length (rowsOf (now table))) × (n ≤ 384) × (n ≤ length (now rows)) ⌝ }
+pub(crate) fn plain_many(
+    octets: &[u8],
+    table: &[u32],
+    index: &[u8; 256],
+    n: usize,
+    rows: &mut [u32],
+) -> bool
+    requires { ⌜ Fits (now table) (now index) (now octets) n × (n ≡ 4 * length (rowsOf (now table))) × (n ≤ 512) × (n ≤ length (now rows)) ⌝ }
     ensures { λ r. ⌜ ((start : ℕ) (option : Bool) → Plainly (rowsOf (now (table .entry))) (parted (rowsOf (now (table .entry))) start option (now (octets .entry))) r (now (rows .entry)) (now (rows .exit))) ⌝ }
 {
-    let mut found = [0u32; 384];
+    let mut found = [0u32; 512];
     if plain_pass(octets, table, index, &mut found) {
         copy_rows(rows, &found, n);
         return true;
@@ -109,13 +115,13 @@ pub(crate) fn plain(
     n: usize,
     rows: &mut [u32],
 ) -> bool
-    requires { ⌜ Fits (now table) (now index) (now octets) n × (n ≡ 3 * length (rowsOf (now table))) × (n ≤ length (now rows)) ⌝ }
+    requires { ⌜ Fits (now table) (now index) (now octets) n × (n ≡ 4 * length (rowsOf (now table))) × (n ≤ length (now rows)) ⌝ }
     ensures { λ r. ⌜ ((start : ℕ) (option : Bool) → Plainly (rowsOf (now (table .entry))) (parted (rowsOf (now (table .entry))) start option (now (octets .entry))) r (now (rows .entry)) (now (rows .exit))) ⌝ }
 {
-    if n <= 48 {
+    if n <= 64 {
         return plain_few(octets, table, index, n, rows);
     }
-    if n <= 120 {
+    if n <= 160 {
         return plain_more(octets, table, index, n, rows);
     }
     plain_many(octets, table, index, n, rows)

@@ -19,7 +19,7 @@ ghost use Rattle.reading.specs.Decodes.{lentOf, Reads};
 // The octets of a part, and the numbers of rows, that the arrays hold: no log needs more than twice the octets.
 pub(crate) const MOST_SHORT: usize = 512;
 
-pub(crate) const MOST_ROWS: usize = 120;
+pub(crate) const MOST_ROWS: usize = 160;
 
 // The first n octets.
 fn copy_octets(out: &mut [u8], octets: &[u8], n: usize)
@@ -41,7 +41,7 @@ pub(crate) fn decode_short(
     kept: &mut [u8],
     order: &mut [u8],
 ) -> Decoded
-    requires { ⌜ Fits (now table) (now index) (now octets) (length (now rows)) × (plainIn (rowsOf (now table)) 0 (parted (rowsOf (now table)) «tlve_start» option (now octets)) ≡ false) × (n ≡ 3 * length (rowsOf (now table))) × (n ≤ 120) × (length (now octets) ≤ 512) ⌝ }
+    requires { ⌜ Fits (now table) (now index) (now octets) (length (now rows)) × (plainIn (rowsOf (now table)) 0 (parted (rowsOf (now table)) «tlve_start» option (now octets)) ≡ false) × (n ≡ 4 * length (rowsOf (now table))) × (n ≤ 160) × (length (now octets) ≤ 512) ⌝ }
     ensures { λ r. ⌜ Reads (reading (now (table .entry)) «tlve_start» option (now (octets .entry)) (lentOf (now (rows .entry)) (now (kept .entry)) (now (order .entry)))) r (now (rows .exit)) (now (kept .exit)) (now (order .exit)) ⌝ }
 {
     let mut found = [0u32; MOST_ROWS];

@@ -7,12 +7,13 @@ use mathlib.Core.Path.{_≡_, refl, sym}
 use mathlib.Core.List.{List, [], _∷_, _++_}
 use mathlib.Core.Bool.{Bool, true, false, _||_, false≢true}
 use mathlib.Core.Option.{Option, none, some}
-use borrow.Author.Tests.{lt-ltb, le-ltb, ltb-true, ltb-false, leb-false}
+use borrow.Author.Tests.{lt-ltb, le-ltb, ltb-false, leb-false}
 use lib.ListN.{length}
 use lib.Dec.{ltb, leb}
-use Rattle.definitions.specs.Basic.{Answer, answer, refusal, Used, tooLong, mostOctets}
+use Rattle.definitions.specs.Basic.{Answer, answer, refuse, refuseAt, refusal, Used, tooLong, mostOctets}
 use Rattle.definitions.specs.Rows.{Row, firstBad}
-use Rattle.definitions.specs.Values.{Octets, badRows, valuesTooLong, placeChecks}
+use Rattle.definitions.specs.Values.{Octets, placeWidth, badRows, valuesTooLong, roomChecks, badPlace, placeChecks}
+use Rattle.definitions.proofs.Checks.{pass, is-false, neither}
 use Rattle.values.specs.Checks.{longWith}
 
 -- the first refusal of two lists of checks is that of the first list, or else of the second
@@ -68,75 +69,78 @@ pub record Short (received : List ℕ) (set : Used) (more : ℕ) : Type 0 where
 
 -- ---- the checks
 
-module _ (t : List Row) (long : Bool) (o : Octets) (rows : List ℕ) (k : ℕ) where
+module _ (t : List Row) (long : Bool) (rows : List ℕ) where
   abbrev checks : List (Option Answer)
-  checks = placeChecks t long o rows k
+  checks = roomChecks t long rows
 
   pub check-table : {j : ℕ} → firstBad t ≡ some j → refusal checks ≡ some (answer 4 (j ∷ []))
-  unfolding placeChecks refusal
+  unfolding roomChecks refusal
   check-table e = rw e
 
   module _ (p : firstBad t ≡ none) where
     pub check-long : long ≡ true → refusal checks ≡ some (answer 3 [])
-    unfolding placeChecks refusal
+    unfolding roomChecks refusal
     check-long e = rw (p, e)
 
     module _ (e : long ≡ false) where
-      pub check-room : length rows < 3 * length t → refusal checks ≡ some (answer 2 (1 ∷ []))
-      unfolding placeChecks refusal
-      check-room h = rw (p, e, lt-ltb (length rows) (3 * length t) h)
+      pub check-short : length rows < placeWidth * length t → refusal checks ≡ some (answer 2 (1 ∷ []))
+      unfolding roomChecks refusal
+      check-short h = rw (p, e, lt-ltb (length rows) (placeWidth * length t) h)
 
-      module _ (h : 3 * length t ≤ length rows) where
-        pub check-bad : badRows o rows (length t) || leb (length t) k ≡ true → refusal checks ≡ some (answer 11 (3 ∷ []))
-        unfolding placeChecks refusal
-        check-bad b = rw (p, e, le-ltb (length rows) (3 * length t) h, b)
+      pub check-room : placeWidth * length t ≤ length rows → refusal checks ≡ none
+      unfolding roomChecks refusal
+      check-room h = rw (p, e, le-ltb (length rows) (placeWidth * length t) h)
 
-        pub check-good : badRows o rows (length t) || leb (length t) k ≡ false → refusal checks ≡ none
-        unfolding placeChecks refusal
-        check-good b = rw (p, e, le-ltb (length rows) (3 * length t) h, b)
+  -- what no refusal of them says
+  pub record Roomy : Type 0 where
+    pub passes : firstBad t ≡ none
+    pub not-long : long ≡ false
+    pub room : placeWidth * length t ≤ length rows
 
--- what no refusal of them says
-pub record Checked (t : List Row) (long : Bool) (o : Octets) (rows : List ℕ) (k : ℕ) : Type 0 where
-  pub passes : firstBad t ≡ none
-  pub not-long : long ≡ false
-  pub room : 3 * length t ≤ length rows
-  pub good : badRows o rows (length t) ≡ false
-  pub inside : k < length t
+  pub roomy : refusal checks ≡ none → Roomy
+  unfolding roomChecks
+  roomy e =
+      let a = pass (refuseAt 4 (firstBad t)) (refuse long 3 [] ∷ refuse (ltb (length rows) (placeWidth * length t)) 2 (1 ∷ []) ∷ []) e in
+      let b = pass (refuse long 3 []) (refuse (ltb (length rows) (placeWidth * length t)) 2 (1 ∷ []) ∷ []) (a .1) in
+      let c = pass (refuse (ltb (length rows) (placeWidth * length t)) 2 (1 ∷ [])) [] (b .1) in
+      record { passes = none-bad (firstBad t) (a .0); not-long = is-false long 3 [] (b .0); room = ltb-false (length rows) (placeWidth * length t) (is-false (ltb (length rows) (placeWidth * length t)) 2 (1 ∷ []) (c .0)) }
+    where
+      none-bad : (o : Option ℕ) → refuseAt 4 o ≡ none → o ≡ none
+      none-bad none h = refl
+      none-bad (some k) h = let z : _≡_ {A = ℕ} 0 1 = cc in absurd (omega arith)
 
-pub checked : (t : List Row) (long : Bool) (o : Octets) (rows : List ℕ) (k : ℕ) → refusal (placeChecks t long o rows k) ≡ none → Checked t long o rows k
-checked t long o rows k e = by (firstBad t) refl
-  where
-    last : firstBad t ≡ none → long ≡ false → 3 * length t ≤ length rows → (b : Bool) → badRows o rows (length t) ≡ b → (d : Bool) → leb (length t) k ≡ d → Checked t long o rows k
-    last p q h false x false y = record { passes = p; not-long = q; room = h; good = x; inside = leb-false (length t) k y }
-    last p q h false x true y =
-        let f = check-bad t long o rows k p q h (rw (x, y)) in
-        let z : _≡_ {A = ℕ} 0 1 = cc in
-        absurd (omega arith)
-    last p q h true x d y =
-        let f = check-bad t long o rows k p q h (rw x) in
-        let z : _≡_ {A = ℕ} 0 1 = cc in
-        absurd (omega arith)
+-- a place in the table
+pub place-inside : (t : List Row) (o : Octets) (rows : List ℕ) (k : ℕ) → badPlace t o rows k ≡ false → k < length t
+unfolding badPlace
+place-inside t o rows k h = leb-false (length t) k (neither (badRows placeWidth o rows (length t)) (leb (length t) k) h .1)
 
-    third : firstBad t ≡ none → long ≡ false → (b : Bool) → ltb (length rows) (3 * length t) ≡ b → Checked t long o rows k
-    third p q true x =
-        let f = check-room t long o rows k p q (ltb-true (length rows) (3 * length t) x) in
-        let z : _≡_ {A = ℕ} 0 1 = cc in
-        absurd (omega arith)
-    third p q false x = last p q (ltb-false (length rows) (3 * length t) x) (badRows o rows (length t)) refl (leb (length t) k) refl
+module _ (t : List Row) (long : Bool) (o : Octets) (rows : List ℕ) (k : ℕ) where
+  -- with the rows and the place: a refusal before them stands
+  pub check-refused : {a : Answer} → refusal (roomChecks t long rows) ≡ some a → refusal (placeChecks t long o rows k) ≡ some a
+  unfolding placeChecks
+  check-refused e = rw (refusal-append (roomChecks t long rows), e)
 
-    second : firstBad t ≡ none → (b : Bool) → long ≡ b → Checked t long o rows k
-    second p true x =
-        let f = check-long t long o rows k p x in
-        let z : _≡_ {A = ℕ} 0 1 = cc in
-        absurd (omega arith)
-    second p false x = third p x (ltb (length rows) (3 * length t)) refl
+  module _ (e : refusal (roomChecks t long rows) ≡ none) where
+    pub check-bad : badPlace t o rows k ≡ true → refusal (placeChecks t long o rows k) ≡ some (answer 11 (3 ∷ []))
+    unfolding placeChecks refusal
+    check-bad b = rw (refusal-append (roomChecks t long rows), e) (rw b)
 
-    by : (f : Option ℕ) → firstBad t ≡ f → Checked t long o rows k
-    by (some j) x =
-        let f = check-table t long o rows k x in
-        let z : _≡_ {A = ℕ} 0 1 = cc in
-        absurd (omega arith)
-    by none x = second x long refl
+    pub check-good : badPlace t o rows k ≡ false → refusal (placeChecks t long o rows k) ≡ none
+    unfolding placeChecks refusal
+    check-good b = rw (refusal-append (roomChecks t long rows), e) (rw b)
+
+  -- what no refusal of them says
+  pub record Checked : Type 0 where
+    pub roomy-is : Roomy t long rows
+    pub inside : k < length t
+
+  pub checked : refusal (placeChecks t long o rows k) ≡ none → Checked
+  unfolding placeChecks badPlace
+  checked e = by (refusal (roomChecks t long rows)) refl (rw (refusal-append (roomChecks t long rows)) at e)
+    where
+      by : (r : Option Answer) → refusal (roomChecks t long rows) ≡ r → orElse r (refusal (refuse (badPlace t o rows k) 11 (3 ∷ []) ∷ [])) ≡ none → Checked
+      by (some a) p q = let z : _≡_ {A = ℕ} 0 1 = cc in absurd (omega arith)
+      by none p q = record { roomy-is = roomy t long rows p; inside = place-inside t o rows k (is-false (badPlace t o rows k) 11 (3 ∷ []) (pass (refuse (badPlace t o rows k) 11 (3 ∷ [])) [] q .0)) }
 
 pub short-of : (received : List ℕ) (set : Used) (more : ℕ) → longWith received set more ≡ false → Short received set more
 unfolding longWith valuesTooLong tooLong

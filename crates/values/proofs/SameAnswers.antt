@@ -11,8 +11,9 @@ use Rattle.values.specs.declared.show.Shown.{Shown}
 
 done-back : List ℕ → Shown
 done-back [] = Shown.Absent
-done-back (x ∷ []) = Shown.Half x
-done-back (x ∷ y ∷ vs) = Shown.Value (record { source = x; start = y; len = getD vs 0 0 })
+done-back (x ∷ []) = Shown.Absent
+done-back (x ∷ y ∷ []) = Shown.Half x y
+done-back (x ∷ y ∷ z ∷ vs) = Shown.Value (record { source = x; start = y; len = z; iei = getD vs 0 0 })
 
 shown-back : ℕ → List ℕ → Shown
 shown-back zero vs = done-back vs
@@ -25,7 +26,7 @@ shown-back (suc (suc (suc (suc (suc n))))) vs = pick (eqb n 5) (Shown.Unfit (get
 shown-found : (s : Shown) → shown-back (shownAs s .number) (shownAs s .values) ≡ s
 unfolding shown-back done-back
 shown-found Shown.Absent = refl
-shown-found (Shown.Half x) = refl
+shown-found (Shown.Half x iei) = refl
 shown-found (Shown.Value r) = refl
 shown-found (Shown.BadTable k) = refl
 shown-found Shown.TooLong = refl

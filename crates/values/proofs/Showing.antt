@@ -26,7 +26,7 @@ module _ (o : Octets) (v : Value) where
   unfolding goodValue
   good-over h = rw (lt-leb (v .source) 2 h)
 
-  pub good-absent : v .source ≡ 0 → goodValue o v ≡ (eqb (v .start) 0 && eqb (v .size) 0)
+  pub good-absent : v .source ≡ 0 → goodValue o v ≡ (eqb (v .start) 0 && (eqb (v .size) 0 && eqb (v .iei) 0))
   unfolding goodValue present
   good-absent e = rw e
 

@@ -8,8 +8,8 @@ use Rattle.values.specs.declared.show.Shown.{Shown}
 
 abbrev pub shownAs : Shown → Answer
 shownAs Shown.Absent = answer 0 []
-shownAs (Shown.Half x) = answer 0 (x ∷ [])
-shownAs (Shown.Value r) = answer 0 (r .source ∷ r .start ∷ r .len ∷ [])
+shownAs (Shown.Half x iei) = answer 0 (x ∷ iei ∷ [])
+shownAs (Shown.Value r) = answer 0 (r .source ∷ r .start ∷ r .len ∷ r .iei ∷ [])
 shownAs (Shown.BadTable k) = answer 4 (k ∷ [])
 shownAs Shown.TooLong = answer 3 []
 shownAs Shown.NoRoom = answer 2 (1 ∷ [])

@@ -6,10 +6,11 @@ use rows::check::Checked;
 use rows::check::check_table;
 use rows::columns::places;
 ghost use mathlib.Core.Path.{_≡_};
+ghost use mathlib.Core.Bool.{_||_};
 ghost use mathlib.Core.Option.{none};
 ghost use Rattle.definitions.specs.Basic.{refusal, content};
 ghost use Rattle.definitions.specs.Rows.{rowsOf, firstBad};
-ghost use Rattle.definitions.specs.Values.{placeChecks};
+ghost use Rattle.definitions.specs.Values.{roomChecks, badPlace, placeChecks};
 ghost use Rattle.kept.specs.Kept.{usedOf};
 ghost use Rattle.values.specs.Rows.{sourcesOf};
 ghost use Rattle.values.specs.Checks.{placeCheckAs, longWith};
@@ -42,49 +43,81 @@ pub fn too_long(received: &[u8], set: &[u8], used: usize, more: usize) -> bool
     false
 }
 
-// The checks behind the table's, under a table that passes.
-fn check_rows(
+// The checks before the rows, under a table that passes.
+fn rows_room(
     table: &[u32],
     rows: &[u32],
     received: &[u8],
     set: &[u8],
     used: usize,
     more: usize,
-    place: usize,
+    long: bool,
 ) -> PlaceCheck
     requires { ⌜ firstBad (rowsOf (now table)) ≡ none ⌝ }
-    ensures { λ r. ⌜ placeCheckAs r ≡ refusal (placeChecks (rowsOf (now (table .entry))) (longWith (now (received .entry)) (usedOf (now (set .entry)) used) more) (sourcesOf (now (received .entry)) (content (usedOf (now (set .entry)) used))) (now (rows .entry)) place) ⌝ }
+    ensures { λ r. ⌜ placeCheckAs r ≡ refusal (roomChecks (rowsOf (now (table .entry))) (long || longWith (now (received .entry)) (usedOf (now (set .entry)) used) more) (now (rows .entry))) ⌝ }
 {
+    if long {
+        return PlaceCheck::TooLong;
+    }
     if too_long(received, set, used, more) {
         return PlaceCheck::TooLong;
     }
-    let n = places(table);
-    if rows.len() < 3 * n {
+    if rows.len() < 4 * places(table) {
         return PlaceCheck::NoRoom;
-    }
-    if any_bad(rows, n, received, part(set, 0, used)) {
-        return PlaceCheck::Malformed;
-    }
-    if place >= n {
-        return PlaceCheck::Malformed;
     }
     PlaceCheck::Passes
 }
 
-// In document 01's order: the table; the octets, with so many set octets more; room for the rows; every row and the place.
+// In document 01's order: the table; the octets, with so many set octets more, or what else is too long; room for the rows.
+pub fn check_room(
+    table: &[u32],
+    rows: &[u32],
+    received: &[u8],
+    set: &[u8],
+    used: usize,
+    more: usize,
+    long: bool,
+) -> PlaceCheck
+    ensures { λ r. ⌜ placeCheckAs r ≡ refusal (roomChecks (rowsOf (now (table .entry))) (long || longWith (now (received .entry)) (usedOf (now (set .entry)) used) more) (now (rows .entry))) ⌝ }
+{
+    match check_table(table) {
+        Checked::Passes => rows_room(table, rows, received, set, used, more, long),
+        Checked::BadRow(k) => PlaceCheck::BadTable(k),
+    }
+}
+
+// Whether a row is malformed, or a place is not in the table.
+pub fn bad_place(table: &[u32], rows: &[u32], received: &[u8], set: &[u8], place: usize) -> bool
+    ensures { λ r. ⌜ r ≡ badPlace (rowsOf (now (table .entry))) (sourcesOf (now (received .entry)) (now (set .entry))) (now (rows .entry)) place ⌝ }
+{
+    let n = places(table);
+    if any_bad(rows, true, n, received, set) {
+        return true;
+    }
+    place >= n
+}
+
+// The checks of showing and clearing, which see no log: those before the rows, then every row and the place.
 pub fn check_place(
     table: &[u32],
     rows: &[u32],
     received: &[u8],
     set: &[u8],
     used: usize,
-    more: usize,
     place: usize,
 ) -> PlaceCheck
-    ensures { λ r. ⌜ placeCheckAs r ≡ refusal (placeChecks (rowsOf (now (table .entry))) (longWith (now (received .entry)) (usedOf (now (set .entry)) used) more) (sourcesOf (now (received .entry)) (content (usedOf (now (set .entry)) used))) (now (rows .entry)) place) ⌝ }
+    ensures { λ r. ⌜ placeCheckAs r ≡ refusal (placeChecks (rowsOf (now (table .entry))) (longWith (now (received .entry)) (usedOf (now (set .entry)) used) 0) (sourcesOf (now (received .entry)) (content (usedOf (now (set .entry)) used))) (now (rows .entry)) place) ⌝ }
 {
-    match check_table(table) {
-        Checked::Passes => check_rows(table, rows, received, set, used, more, place),
-        Checked::BadRow(k) => PlaceCheck::BadTable(k),
+    match check_room(table, rows, received, set, used, 0, false) {
+        PlaceCheck::Passes => {
+            if bad_place(table, rows, received, part(set, 0, used), place) {
+                return PlaceCheck::Malformed;
+            }
+            PlaceCheck::Passes
+        }
+        PlaceCheck::BadTable(k) => PlaceCheck::BadTable(k),
+        PlaceCheck::TooLong => PlaceCheck::TooLong,
+        PlaceCheck::NoRoom => PlaceCheck::NoRoom,
+        PlaceCheck::Malformed => PlaceCheck::Malformed,
     }
 }

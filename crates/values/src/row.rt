@@ -1,51 +1,102 @@
-// The row of a place: source, start and length of its value, the octets that it names, and whether these fit a form.
+// The row of a place: source, start and length of its value and its IEI, the octets that it names, and whether these fit a form.
 use octets::part;
 use rows::columns::Form;
 ghost use mathlib.Core.Path.{_≡_};
-ghost use Prim.Native.Nat.{_*_, _<_};
+ghost use Prim.Native.Nat.{_<_};
 ghost use lib.ListN.{getD, drop};
-ghost use Rattle.definitions.specs.Values.{valueAt, octetsAt, goodValue, badRows, fits};
+ghost use Rattle.definitions.specs.Values.{mandatoryWidth, valueIn, valueAt, octetsAt, goodValue, badRows, fits};
 ghost use Rattle.rows.specs.Forms.{formAs};
-ghost use Rattle.values.specs.Rows.{valueOf, sourcesOf, PlacedAs};
+ghost use Rattle.values.specs.Rows.{valueOf, widthOf, sourcesOf, PlacedAs};
 
-// The three numbers of a place: source, start and length of its value.
+// The numbers of a row: source, start and length of its value, and its IEI, which a mandatory row has not.
 pub struct ValueRow {
     pub source: u32,
     pub start: u32,
     pub len: u32,
+    pub iei: u32,
 }
 
-// A number of a place's row, also of one that the rows do not have whole; 0 where there is none.
-fn number(rows: &[u32], place: usize, column: usize) -> u32
-    ensures { λ r. ⌜ r ≡ getD (drop (3 * place) (now (rows .entry))) column 0 ⌝ }
+// A number behind a position, also of a row that is not whole; 0 where there is none.
+fn number(rows: &[u32], at: usize, column: usize) -> u32
+    ensures { λ r. ⌜ r ≡ getD (drop at (now (rows .entry))) column 0 ⌝ }
 {
-    if place > rows.len() / 3 {
+    if at > rows.len() {
         return 0;
     }
-    let start = 3 * place;
-    if column >= rows.len() - start {
+    if column >= rows.len() - at {
         return 0;
     }
-    rows[start + column]
+    rows[at + column]
 }
 
 // The numbers of a place's row, at once where the rows have it whole; 0 where there are none.
 pub fn row_at(rows: &[u32], place: usize) -> ValueRow
     ensures { λ r. ⌜ valueOf r ≡ valueAt (now (rows .entry)) place ⌝ }
 {
-    if place < rows.len() / 3 {
-        let at = 3 * place;
+    if place < rows.len() / 4 {
+        let at = 4 * place;
         return ValueRow {
             source: rows[at],
             start: rows[at + 1],
             len: rows[at + 2],
+            iei: rows[at + 3],
         };
     }
-    ValueRow {
-        source: number(rows, place, 0),
-        start: number(rows, place, 1),
-        len: number(rows, place, 2),
+    if place > rows.len() / 4 {
+        return ValueRow {
+            source: 0,
+            start: 0,
+            len: 0,
+            iei: 0,
+        };
     }
+    let at = 4 * place;
+    ValueRow {
+        source: number(rows, at, 0),
+        start: number(rows, at, 1),
+        len: number(rows, at, 2),
+        iei: number(rows, at, 3),
+    }
+}
+
+// The same of a mandatory row, of three numbers.
+pub fn mandatory_row_at(rows: &[u32], row: usize) -> ValueRow
+    ensures { λ r. ⌜ valueOf r ≡ valueIn mandatoryWidth (now (rows .entry)) row ⌝ }
+{
+    if row < rows.len() / 3 {
+        let at = 3 * row;
+        return ValueRow {
+            source: rows[at],
+            start: rows[at + 1],
+            len: rows[at + 2],
+            iei: 0,
+        };
+    }
+    if row > rows.len() / 3 {
+        return ValueRow {
+            source: 0,
+            start: 0,
+            len: 0,
+            iei: 0,
+        };
+    }
+    let at = 3 * row;
+    ValueRow {
+        source: number(rows, at, 0),
+        start: number(rows, at, 1),
+        len: number(rows, at, 2),
+        iei: 0,
+    }
+}
+
+// A row of a place, which has an IEI, or a mandatory one.
+fn row_of(rows: &[u32], with_iei: bool, k: usize) -> ValueRow
+    ensures { λ r. ⌜ valueOf r ≡ valueIn (widthOf «with_iei») (now (rows .entry)) k ⌝ }
+{
+    if with_iei {
+        return row_at(rows, k);
+    }
+    mandatory_row_at(rows, k)
 }
 
 // Whether a row is well formed: a source of 0 to 2, a value that ends within its octets, an absent one all zeros.
@@ -57,7 +108,9 @@ pub fn is_good(row: ValueRow, received: &[u8], set: &[u8]) -> bool
     }
     if row.source == 0 {
         if row.start == 0 {
-            return row.len == 0;
+            if row.len == 0 {
+                return row.iei == 0;
+            }
         }
         return false;
     }
@@ -74,13 +127,13 @@ fn wide(x: u32) -> usize
     x as usize
 }
 
-// Whether a row of the first n is malformed.
-pub fn any_bad(rows: &[u32], n: usize, received: &[u8], set: &[u8]) -> bool
-    ensures { λ r. ⌜ r ≡ badRows (sourcesOf (now (received .entry)) (now (set .entry))) (now (rows .entry)) n ⌝ }
+// Whether a row of the first n, of a place or a mandatory one, is malformed.
+pub fn any_bad(rows: &[u32], with_iei: bool, n: usize, received: &[u8], set: &[u8]) -> bool
+    ensures { λ r. ⌜ r ≡ badRows (widthOf «with_iei») (sourcesOf (now (received .entry)) (now (set .entry))) (now (rows .entry)) n ⌝ }
 {
     let mut k = 0;
     while k < n {
-        if !is_good(row_at(rows, k), received, set) {
+        if !is_good(row_of(rows, with_iei, k), received, set) {
             return true;
         }
         k += 1;

@@ -15,10 +15,11 @@ ghost use Rattle.rows.specs.Forms.{formAs};
 ghost use Rattle.values.specs.Shows.{shownAs, shownRow};
 ghost use Rattle.values.specs.Rows.{sourcesOf, valueOf};
 
-// What showing answers: nothing for an absent place, the four bits of a half octet, or where the value is; or a refusal.
+// What showing answers: nothing for an absent place, the four bits of a half octet and its IEI, or the row that
+// says where the value is; or a refusal.
 pub enum Shown {
     Absent,
-    Half(u8),
+    Half(u8, u32),
     Value(ValueRow),
     BadTable(usize),
     TooLong,
@@ -41,9 +42,9 @@ fn show_row<'a>(form: Form, row: ValueRow, received: &'a [u8], set: &'a [u8], pl
     match form {
         Form::Half => {
             if value.len() == 0 {
-                return Shown::Half(0);
+                return Shown::Half(0, row.iei);
             }
-            Shown::Half(value[0] % 16)
+            Shown::Half(value[0] % 16, row.iei)
         }
         Form::Fixed(_) => Shown::Value(row),
         Form::Tlv => Shown::Value(row),
@@ -62,7 +63,7 @@ pub fn show<'a>(
 ) -> Shown
     ensures { λ r. ⌜ shownAs r ≡ showing (now (table .entry)) (now (rows .entry)) (now (received .entry)) (usedOf (now (set .entry)) used) place ⌝ }
 {
-    match check_place(table, rows, received, set, used, 0, place) {
+    match check_place(table, rows, received, set, used, place) {
         PlaceCheck::Passes => show_row(
             form_at(table, place),
             row_at(rows, place),

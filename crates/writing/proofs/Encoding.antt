@@ -1,26 +1,29 @@
 -- Writing by what was measured: each answer of the code is the definition's, with the output that it leaves. A refusal leaves the
 -- output as it was; where writing is done, what was measured is as long as what is written.
-use Prim.Native.Nat.{ℕ, zero, suc, _+_, _*_, _-_, _≤_, _<_}
+use Prim.Native.Nat.{ℕ, _+_, _*_, _-_, _≤_, _<_}
 use native.Mathlib.Omega.{arith}
 use mathlib.Core.Path.{_≡_, refl, ap, sym, _∙_}
 use mathlib.Core.List.{List, [], _∷_}
 use mathlib.Core.Bool.{Bool, true, false, _&&_, _||_, not, false≢true}
 use mathlib.Core.Option.{Option, none, some}
-use borrow.Author.Tests.{lt-ltb, le-ltb, ltb-true, ltb-false}
+use borrow.Author.Tests.{lt-ltb, le-ltb, ltb-false}
 use lib.ListN.{length, take, length-take}
 use lib.Seq.{take-all}
 use lib.Dec.{ltb}
-use Rattle.definitions.specs.Basic.{pick, among, bit, concat, Answer, answer, over, content, tooLong, mostOctets, mostLog}
-use Rattle.definitions.specs.Rows.{Row, rowsOf, firstBad, index}
+use Rattle.definitions.specs.Basic.{among, bit, concat, Answer, answer, over, content, tooLong, mostOctets, mostLog}
+use Rattle.definitions.specs.Rows.{Row, rowsOf, firstIei, firstBad, index}
 use Rattle.definitions.specs.Logs.{Placed, keptList, orderList, orEmpty}
-use Rattle.definitions.specs.Values.{valueAt, present, firstFrom, badRows, unfitAt, valuesTooLong}
+use Rattle.definitions.specs.Values.{placeWidth, valueAt, present, goodValue, anyOf, badRows, apart, unfitAt, valuesTooLong}
 use Rattle.definitions.specs.Writing.{Filled, logged, written, unfit, octetsIn, octetsFor, writingChecks, Wrote, writing}
 use Rattle.definitions.proofs.WriteLaws.{unwritten, write-long, write-rows, write-order, write-kept, write-values, write-unfit, write-short, write-done, loggedLength, walked-length}
+use Rattle.definitions.proofs.Checks.{none-first, either-of}
 use Rattle.definitions.proofs.LogSteps.{keptFrom, KeptAt, orderFrom, OrderAt}
 use Rattle.kept.specs.Kept.{usedOf}
 use Rattle.values.specs.Rows.{sourcesOf}
+use Rattle.agreement.specs.Agreed.{apartBy, Agreeing}
+use Rattle.agreement.proofs.Agreeing.{found-apart, all-apart}
 use Rattle.writing.specs.Walks.{filledOf, Writable, addedIn, addedOctets, leftOf}
-use Rattle.writing.specs.Sizes.{Tells, AddedAre}
+use Rattle.writing.specs.Sizes.{Tells, AddedAre, wrongAt, wrong}
 use Rattle.writing.specs.Encodes.{encodedAs, Encodes, usedUp, Limited}
 use Rattle.writing.specs.declared.encode.Which.{Which}
 use Rattle.writing.specs.declared.encode.Encoded.{Encoded}
@@ -70,24 +73,27 @@ module _ (m : Filled) (order : List ℕ) (octets s a : ℕ) (t : Tells m order o
   unfolding orEmpty
   all-left kept {es = es} q = rw (t .is, kept-is kept q) (sym (written-left m a (t .ps) es has-added))
 
--- values of which none is unfit
-none-first : (test : ℕ → Bool) (j n k : ℕ) → firstFrom test j n ≡ none → j ≤ k → k < j + n → test k ≡ false
-unfolding firstFrom
-none-first test j zero k e h l = absurd (omega arith)
-none-first test j (suc n) k e h l = by (test j) refl e (none-first test (suc j) n k)
-  where
-    by : (b : Bool) → test j ≡ b → pick b (some j) (firstFrom test (suc j) n) ≡ none → (firstFrom test (suc j) n ≡ none → suc j ≤ k → k < suc j + n → test k ≡ false) → test k ≡ false
-    by true q e r = let z : _≡_ {A = ℕ} 0 1 = cc in absurd (omega arith)
-    by false q e r = go (ltb j k) refl
-      where
-        go : (b : Bool) → ltb j k ≡ b → test k ≡ false
-        go true x = r e (omega (arith, ltb-true j k x)) (omega arith)
-        go false x = let i : k ≡ j = omega (arith, ltb-false j k x) in rw i q
-
 pub writable : (table rows received set : List ℕ) → firstBad (rowsOf table) ≡ none → unfit (rowsOf table) (sourcesOf received set) rows ≡ none → Writable table rows received set
 unfolding unfit
 writable table rows received set p f =
-    record { passes = p; fit = λ k h. none-first (unfitAt (rowsOf table) (sourcesOf received set) rows) 0 (length (rowsOf table)) k f (omega arith) (omega arith) }
+    record { passes = p; fit = λ k h. none-first (unfitAt (rowsOf table) (sourcesOf received set) rows) 0 (length (rowsOf table)) f k (omega arith) (omega arith) }
+
+-- ---- the rows, malformed or beside the log
+
+pub wrong-rows : (m : Filled) (set : ℕ) (ps : List Placed) → Agreeing (m .table) (m .rows) ps [] set false
+    → wrong m set ≡ (badRows placeWidth (m .octets) (m .rows) (length (m .table)) || apart (m .table) ps (m .rows))
+unfolding wrongAt badRows
+wrong-rows m set ps a =
+    either-of (λ k. not (goodValue (m .octets) (valueAt (m .rows) k))) (λ k. apartBy (m .rows) set k (firstIei (m .table) k)) (length (m .table))
+    ∙ ap (λ (b : Bool). anyOf (λ k. not (goodValue (m .octets) (valueAt (m .rows) k))) (length (m .table)) || b) (all-apart (m .table) (m .rows) ps set a)
+
+pub apart-rows : (m : Filled) (set : ℕ) (ps : List Placed) → Agreeing (m .table) (m .rows) ps [] set true
+    → (badRows placeWidth (m .octets) (m .rows) (length (m .table)) || apart (m .table) ps (m .rows)) ≡ true
+apart-rows m set ps a = rw (found-apart (m .table) (m .rows) ps set a) (by (badRows placeWidth (m .octets) (m .rows) (length (m .table))))
+  where
+    by : (b : Bool) → (b || true) ≡ true
+    by true = refl
+    by false = refl
 
 -- ---- of octets that are used to their end
 
@@ -131,11 +137,11 @@ module _ (table entries rows received set kept order output : List ℕ) (l : Lim
       q′ : keptList (content (usedUp kept)) ≡ some ks
       q′ = rw (up kept) q
 
-      pub bad-rows : badRows (sourcesOf received set) rows (length t) ≡ true → Encodes w (Encoded.Malformed Which.Rows) output
+      pub bad-rows : (badRows placeWidth (sourcesOf received set) rows (length t) || apart t ps rows) ≡ true → Encodes w (Encoded.Malformed Which.Rows) output
       bad-rows e = refused (write-values table rows received (usedUp set) (usedUp order) (usedUp kept) output passes short (l .rows-there) ps p′ ks q′ (rw (up set) e)) refl
 
-      module _ (good : badRows (sourcesOf received set) rows (length t) ≡ false) where
-        good′ : badRows (sourcesOf received (content (usedUp set))) rows (length t) ≡ false
+      module _ (good : (badRows placeWidth (sourcesOf received set) rows (length t) || apart t ps rows) ≡ false) where
+        good′ : (badRows placeWidth (sourcesOf received (content (usedUp set))) rows (length t) || apart t ps rows) ≡ false
         good′ = rw (up set) good
 
         pub no-fit : {k : ℕ} → unfit t (sourcesOf received set) rows ≡ some k → Encodes w (Encoded.Unfit k) output
@@ -217,14 +223,14 @@ module _ (table entries rows received set : List ℕ) (set-used : ℕ) (kept : L
           unfolding valuesTooLong
           all-short = rw (le-ltb mostOctets (length received) a, b, c, d)
 
-          pub no-rows : length rows < 3 * length (rowsOf table) → Encodes v Encoded.NoRows output
+          pub no-rows : length rows < 4 * length (rowsOf table) → Encodes v Encoded.NoRows output
           no-rows h = refused (write-rows table rows received (usedOf set set-used) (usedOf order order-used) (usedOf kept kept-used) output passes all-short h) refl
 
           -- each count is within its buffer
           pub within : (set-used ≤ length set) × (kept-used ≤ length kept) × (order-used ≤ length order)
           within = (not-long mostOctets set set-used b .0, not-long mostLog kept kept-used d .0, not-long mostLog order order-used c .0)
 
-          module _ (room : 3 * length (rowsOf table) ≤ length rows) (i : entries ≡ index (rowsOf table)) where
+          module _ (room : 4 * length (rowsOf table) ≤ length rows) (i : entries ≡ index (rowsOf table)) where
             pub limited : Limited table entries rows received (take set-used set) (take kept-used kept) (take order-used order)
             limited =
                 let x = not-long mostOctets set set-used b .1 in

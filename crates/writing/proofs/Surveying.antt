@@ -11,17 +11,18 @@ use lib.Dec.{eqb}
 use Rattle.definitions.specs.Basic.{pick, bit, isNone}
 use Rattle.definitions.specs.Elements.{including}
 use Rattle.definitions.specs.Rows.{firstIei}
-use Rattle.definitions.specs.Values.{valueAt, present, goodValue, firstFrom, badRows, unfitAt}
+use Rattle.definitions.specs.Values.{valueAt, present, firstFrom, unfitAt}
 use Rattle.definitions.specs.Writing.{Filled, firsts, unfit}
 use Rattle.definitions.proofs.BitLaws.{bit-including}
 use Rattle.seen.specs.Seen.{setOf, seenOf, includingPlace}
 use Rattle.values.proofs.Showing.{first-here, first-further, first-over}
+use Rattle.agreement.proofs.Agreeing.{no-bit}
 use Rattle.writing.specs.Walks.{addedIn, addedPiece, addedOctets}
-use Rattle.writing.specs.Sizes.{mostIe, addedTo, LookedAt, SurveyedBy}
+use Rattle.writing.specs.Sizes.{mostIe, addedTo, wrongAt, wrong, LookedAt, SurveyedBy}
 use Rattle.writing.specs.declared.sizes.Looked.{Looked}
 use Rattle.writing.specs.declared.sizes.Surveyed.{Surveyed}
 use Rattle.writing.specs.declared.sizes.Tally.{Tally}
-use Rattle.writing.proofs.Tallying.{any-iei, bit-zero, set-with}
+use Rattle.writing.proofs.Tallying.{any-iei, set-with}
 use Rattle.writing.proofs.Cursor.{added-more, same-octets, piece-added, piece-not}
 
 module _ (m : Filled) (set : ℕ) where
@@ -29,7 +30,7 @@ module _ (m : Filled) (set : ℕ) where
   n = length (m .table)
 
   abbrev bad : ℕ → Bool
-  bad k = not (goodValue (m .octets) (valueAt (m .rows) k))
+  bad k = wrongAt m set k
 
   abbrev not-fit : ℕ → Bool
   not-fit k = unfitAt (m .table) (m .octets) (m .rows) k
@@ -56,13 +57,13 @@ module _ (m : Filled) (set : ℕ) where
         good-before = ap (firstFrom bad 0) z;
         fit-before = ap (firstFrom not-fit 0) z;
         bits = λ j h. absurd (omega arith);
-        no-bits = λ j h. bit-zero j;
+        no-bits = λ j h. no-bit j;
         sum = refl;
       }
 
   module _ (k : ℕ) (t : Tally) (s : Surveying k t) where
     pub surveying-ended : n ≤ k → n ≤ 128 → SurveyedBy m set (Surveyed.Added t)
-    unfolding badRows unfit isNone
+    unfolding unfit isNone
     surveying-ended h q =
         let e : k ≡ n = omega (arith, s .inside) in
         let g : firstFrom bad 0 n ≡ none = sym (s .good-before) ∙ first-over bad n k h in
@@ -70,20 +71,16 @@ module _ (m : Filled) (set : ℕ) where
         (rw g, f, λ j l. s .bits j (omega arith), rw e at (s .sum), omega (arith, s .few))
 
     module _ (h : k < n) where
-      pub surveying-bad : goodValue (m .octets) (valueAt (m .rows) k) ≡ false → SurveyedBy m set Surveyed.Malformed
-      unfolding badRows isNone
-      surveying-bad e = let g : firstFrom bad 0 n ≡ some k = sym (s .good-before) ∙ first-here bad n k h (rw e) in rw g
+      pub surveying-bad : wrongAt m set k ≡ true → SurveyedBy m set Surveyed.Malformed
+      unfolding isNone
+      surveying-bad e = let g : firstFrom bad 0 n ≡ some k = sym (s .good-before) ∙ first-here bad n k h e in rw g
 
-      pub surveying-unfit : {r : Surveyed} → not-fit k ≡ true → r ≡ pick (badRows (m .octets) (m .rows) n) Surveyed.Malformed (Surveyed.Unfit k) → SurveyedBy m set r
+      pub surveying-unfit : not-fit k ≡ true → wrong m set ≡ false → SurveyedBy m set (Surveyed.Unfit k)
       unfolding unfit
-      surveying-unfit {r = r} e q = rw q (by (badRows (m .octets) (m .rows) n) refl)
-        where
-          by : (b : Bool) → badRows (m .octets) (m .rows) n ≡ b → SurveyedBy m set (pick b Surveyed.Malformed (Surveyed.Unfit k))
-          by true p = p
-          by false p = (p, sym (s .fit-before) ∙ first-here not-fit n k h e)
+      surveying-unfit e q = (q, sym (s .fit-before) ∙ first-here not-fit n k h e)
 
       -- a place that is well formed and fits, with a set that has it where it is wanted, and is else the same
-      module _ (good : goodValue (m .octets) (valueAt (m .rows) k) ≡ true) (fit : not-fit k ≡ false) (u : Tally)
+      module _ (good : wrongAt m set k ≡ false) (fit : not-fit k ≡ false) (u : Tally)
           (others : (j : ℕ) → (j ≡ k → ⊥) → bit j (setOf (u .seen)) ≡ bit j (setOf (t .seen))) (here : bit k (setOf (u .seen)) ≡ wanted k)
           (more : u .octets ≡ t .octets + length (addedPiece m (setOf (u .seen)) k)) (few-more : u .octets ≤ t .octets + mostIe) where
         bits-more : (j : ℕ) → j < k + 1 → (b : Bool) → eqb j k ≡ b → bit j (setOf (u .seen)) ≡ wanted j
@@ -98,7 +95,7 @@ module _ (m : Filled) (set : ℕ) where
             record {
               inside = omega arith;
               few = omega (arith, s .few);
-              good-before = first-further bad n k h (rw good) ∙ s .good-before;
+              good-before = first-further bad n k h good ∙ s .good-before;
               fit-before = first-further not-fit n k h fit ∙ s .fit-before;
               bits = λ j l. bits-more j l (eqb j k) refl;
               no-bits = λ j l. others j (λ z. omega arith) ∙ s .no-bits j (omega arith);
@@ -106,17 +103,17 @@ module _ (m : Filled) (set : ℕ) where
             }
 
       -- a place that is not wanted changes nothing
-      passed : goodValue (m .octets) (valueAt (m .rows) k) ≡ true → not-fit k ≡ false → wanted k ≡ false → Surveying (k + 1) t
+      passed : wrongAt m set k ≡ false → not-fit k ≡ false → wanted k ≡ false → Surveying (k + 1) t
       passed g f e =
           let z = s .no-bits k (omega arith) in
           let l : t .octets ≡ t .octets + length (addedPiece m (setOf (t .seen)) k) = rw (piece-not m (setOf (t .seen)) k z) (omega arith) in
           stepped g f t (λ j i. refl) (z ∙ sym e) l (omega arith)
 
-      pub surveying-absent : LookedAt m k Looked.Absent → Surveying (k + 1) t
+      pub surveying-absent : LookedAt m set k Looked.Absent → Surveying (k + 1) t
       unfolding unfitAt
       surveying-absent a = passed (a .0) (rw (a .1)) (rw (a .1))
 
-      pub surveying-step : k < 128 → {l : ℕ} {u : Tally} → LookedAt m k (Looked.Takes l) → u ≡ addedTo set k l t → Surveying (k + 1) u
+      pub surveying-step : k < 128 → {l : ℕ} {u : Tally} → LookedAt m set k (Looked.Takes l) → u ≡ addedTo set k l t → Surveying (k + 1) u
       surveying-step low {l = l} a q = rw q (by (bit k set) refl)
         where
           with-it : Tally

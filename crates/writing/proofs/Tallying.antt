@@ -1,8 +1,8 @@
 -- The order log measured an entry at a time: with what is left the tally is that of the whole log.
 -- Each step moves an entry from what is left into the tally; a log that is malformed further on is malformed.
-use Prim.Native.Nat.{ℕ, _+_, _*_, _/_, _^_, _≤_, _<_}
+use Prim.Native.Nat.{ℕ, _+_, _*_, _^_, _≤_, _<_}
 use native.Mathlib.Omega.{arith}
-use native.Mathlib.Nat.{div-add-mod', zero-div}
+use native.Mathlib.Nat.{div-add-mod'}
 use mathlib.Core.Path.{_≡_, refl, ap, sym, _∙_}
 use mathlib.Core.List.{List, [], _∷_}
 use mathlib.Core.Bool.{Bool, true, false, _||_}
@@ -24,8 +24,10 @@ use Rattle.definitions.proofs.WriteLaws.{loggedLength}
 use Rattle.definitions.proofs.LogSteps.{OrderAt, orderFrom, order-split, order-next, order-over}
 use Rattle.seen.specs.Seen.{setOf, seenOf, includingPlace}
 use Rattle.seen.specs.declared.Seen.{Seen}
+use Rattle.agreement.specs.Agreed.{knownSet, entrySet, entryApart, Agreeing}
+use Rattle.agreement.proofs.Agreeing.{no-bit, agreeing-begun, agreeing-step}
 use Rattle.writing.specs.Walks.{IndexIs}
-use Rattle.writing.specs.Sizes.{placeLength, mostIe, knownLength, knownSet, entryLength, entrySet, Tallied, Tells, LoggedBy}
+use Rattle.writing.specs.Sizes.{placeLength, mostIe, knownLength, entryLength, Tallied, Tells, foundBy, LoggedBy}
 use Rattle.writing.specs.declared.sizes.Tally.{Tally}
 use Rattle.writing.proofs.Places.{encoded-length}
 
@@ -106,22 +108,20 @@ places-more t (ignored r) ps j set = refl
 
 -- ---- the order log
 
-pub bit-zero : (k : ℕ) → bit k 0 ≡ false
-unfolding bit
-bit-zero k = let z : 0 / 2 ^ k ≡ 0 = zero-div (2 ^ k) in rw z
-
-pub record Logging (m : Filled) (order : List ℕ) (at : ℕ) (t : Tally) : Type 0 where
+pub record Logging (m : Filled) (order : List ℕ) (at : ℕ) (t : Tally) (apart : Bool) : Type 0 where
   pub here : OrderAt order at
   pub few : t .octets ≤ mostIe * at
   pub tells : Tells m order (t .octets) (setOf (t .seen)) (orderFrom order at)
+  pub agrees : Agreeing (m .table) (m .rows) (tells .ps) (orderFrom order at) (setOf (t .seen)) apart
 
 module _ (m : Filled) (order : List ℕ) where
-  pub logging-begun : OrderAt order 0 → Logging m order 0 (record { octets = 0; seen = record { low = 0; high = 0 } })
+  pub logging-begun : OrderAt order 0 → Logging m order 0 (record { octets = 0; seen = record { low = 0; high = 0 } }) false
   logging-begun l =
       record {
         here = l;
         few = omega arith;
         tells = record { ps = orderFrom order 0; is = l .formed; sum = omega arith; places = λ k. nothing k (among k (logged (m .table) (orderFrom order 0))) };
+        agrees = agreeing-begun (m .table) (m .rows) (orderFrom order 0);
       }
     where
       or-false : (b : Bool) → (b || false) ≡ b
@@ -129,13 +129,15 @@ module _ (m : Filled) (order : List ℕ) where
       or-false false = refl
 
       nothing : (k : ℕ) (b : Bool) → (b || bit k 0) ≡ b
-      nothing k b = ap (λ (x : Bool). b || x) (bit-zero k) ∙ or-false b
+      nothing k b = ap (λ (x : Bool). b || x) (no-bit k) ∙ or-false b
 
-  module _ (at : ℕ) (t : Tally) (l : Logging m order at t) where
-    pub logging-step : (h : at < length order) {p : Placed} {r : Tally} → orderFront (drop at order) ≡ some p → Tallied m p t r → Logging m order (at + length (orderEntry p)) r
-    logging-step h {p = p} {r = r} e s =
+  module _ (at : ℕ) (t : Tally) (apart : Bool) (l : Logging m order at t apart) where
+    pub logging-step : firstBad (m .table) ≡ none → (h : at < length order) {p : Placed} {r : Tally} {x : Bool} → orderFront (drop at order) ≡ some p → Tallied m p t r
+        → x ≡ entryApart (m .table) (m .rows) p (setOf (t .seen)) apart → Logging m order (at + length (orderEntry p)) r x
+    logging-step passes h {p = p} {r = r} e s y =
         let n = order-next order at h (l .here) e in
-        let g = rw (n .0) at (l .tells) in
+        let b = stepped (n .0) (l .tells) (l .agrees) in
+        let g = b .0 in
         let qs = orderFrom order (at + length (orderEntry p)) in
         record {
           here = n .1;
@@ -146,7 +148,20 @@ module _ (m : Filled) (order : List ℕ) where
             sum = omega (arith, s .octets, logged-more m p qs, g .sum);
             places = λ k. ap (λ (n : ℕ). among k (logged (m .table) qs) || bit k n) (s .set) ∙ sym (places-more (m .table) p qs k (setOf (t .seen))) ∙ g .places k;
           };
+          agrees = rw (s .set, y) (agreeing-step (m .table) (m .rows) (g .ps) passes qs (setOf (t .seen)) apart p (b .1));
         }
+      where
+        stepped :
+            {left left′ : List Placed} → left ≡ left′ → (g : Tells m order (t .octets) (setOf (t .seen)) left) → Agreeing (m .table) (m .rows) (g .ps) left (setOf (t .seen)) apart
+            → (g : Tells m order (t .octets) (setOf (t .seen)) left′) × Agreeing (m .table) (m .rows) (g .ps) left′ (setOf (t .seen)) apart
+        stepped e g a = (record { ps = g .ps; is = g .is; sum = rw e at (g .sum); places = rw e at (g .places) }, rw e at a)
 
-    pub logging-ended : length order ≤ at → LoggedBy m order t
-    logging-ended h = (let e : at ≡ length order = omega (arith, l .here .inside) in rw e at (l .few), rw (order-over order at h) at (l .tells))
+    pub logging-ended : length order ≤ at → LoggedBy m order (foundBy t apart)
+    logging-ended h =
+        let e : at ≡ length order = omega (arith, l .here .inside) in
+        let o = order-over order at h in
+        record {
+          few = rw e at (l .few);
+          tells = record { ps = l .tells .ps; is = l .tells .is; sum = rw o at (l .tells .sum); places = rw o at (l .tells .places) };
+          agrees = rw o at (l .agrees);
+        }

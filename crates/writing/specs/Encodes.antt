@@ -39,4 +39,4 @@ pub record Limited (table entries rows received set kept order : List ℕ) : Typ
   pub sized : Sized table entries received set
   pub kept-short : length kept ≤ 131070
   pub order-short : length order ≤ 131070
-  pub rows-there : 3 * length (rowsOf table) ≤ length rows
+  pub rows-there : 4 * length (rowsOf table) ≤ length rows

@@ -2,19 +2,20 @@
 use Prim.Native.Nat.{ℕ, _+_, _*_, _≤_, _<_}
 use mathlib.Core.Path.{_≡_}
 use mathlib.Core.List.{List, []}
-use mathlib.Core.Bool.{true, false, _&&_, _||_, not}
+use mathlib.Core.Bool.{Bool, true, false, _&&_, _||_, not}
 use mathlib.Core.Option.{Option, none, some}
 use lib.ListN.{length}
 use Rattle.definitions.specs.Basic.{pick, bit, among}
-use Rattle.definitions.specs.Rows.{Row, Form, half, fixed, tlv, tlv-e, rowsOf, firstBad, placeOf, index}
-use Rattle.definitions.specs.Elements.{including}
-use Rattle.definitions.specs.Values.{valueAt, present, goodValue, badRows, unfitAt}
+use Rattle.definitions.specs.Rows.{Form, half, fixed, tlv, tlv-e, rowsOf, firstIei, firstBad, placeOf, index}
+use Rattle.definitions.specs.Values.{valueAt, present, goodValue, anyOf, unfitAt}
 use Rattle.definitions.specs.Logs.{Placed, knownIei, notKnown, ignored, orderList}
 use Rattle.definitions.specs.Writing.{Filled, elementAt, logged, unfit}
 use Rattle.definitions.proofs.WriteLaws.{loggedLength}
 use Rattle.seen.specs.Seen.{setOf, seenOf, includingPlace}
 use Rattle.writing.specs.Walks.{addedOctets}
+use Rattle.agreement.specs.Agreed.{apartBy, entrySet, Agreeing}
 use Rattle.writing.specs.declared.sizes.Tally.{Tally}
+use Rattle.writing.specs.declared.sizes.Logged.{Logged}
 use Rattle.writing.specs.declared.sizes.Looked.{Looked}
 use Rattle.writing.specs.declared.sizes.Surveyed.{Surveyed}
 
@@ -42,24 +43,15 @@ pub record Sized (table entries received set : List ℕ) : Type 0 where
 
 -- ---- the order log
 
--- the octets of an entry's element, and the logged places with its own
+-- the octets of an entry's element
 abbrev pub knownLength : Filled → Option ℕ → ℕ
 knownLength m none = 0
 knownLength m (some k) = placeLength m k
-
-abbrev pub knownSet : ℕ → Option ℕ → ℕ
-knownSet set none = set
-knownSet set (some k) = including k set
 
 unfoldable pub entryLength : Filled → Placed → ℕ
 entryLength m (knownIei i) = knownLength m (placeOf (m .table) i)
 entryLength m notKnown = 0
 entryLength m (ignored r) = 0
-
-unfoldable pub entrySet : List Row → Placed → ℕ → ℕ
-entrySet t (knownIei i) set = knownSet set (placeOf t i)
-entrySet t notKnown set = set
-entrySet t (ignored r) set = set
 
 -- with one entry more
 pub record Tallied (m : Filled) (p : Placed) (t r : Tally) : Type 0 where
@@ -74,18 +66,30 @@ pub record Tells (m : Filled) (order : List ℕ) (octets set : ℕ) (qs : List P
   pub sum : octets + loggedLength m qs ≡ loggedLength m ps
   pub places : (k : ℕ) → (among k (logged (m .table) qs) || bit k set) ≡ among k (logged (m .table) ps)
 
-abbrev pub LoggedBy : Filled → List ℕ → Tally → Type 0
-LoggedBy m order t = (t .octets ≤ mostIe * length order) × Tells m order (t .octets) (setOf (t .seen)) []
+abbrev pub foundBy : Tally → Bool → Logged
+foundBy t apart = record { octets = t .octets; seen = t .seen; apart = apart }
+
+pub record LoggedBy (m : Filled) (order : List ℕ) (t : Logged) : Type 0 where
+  pub few : t .octets ≤ mostIe * length order
+  pub tells : Tells m order (t .octets) (setOf (t .seen)) []
+  pub agrees : Agreeing (m .table) (m .rows) (tells .ps) [] (setOf (t .seen)) (t .apart)
 
 -- ---- the places
 
--- one place
-abbrev pub LookedAt : Filled → ℕ → Looked → Type 0
-LookedAt m k Looked.Bad = goodValue (m .octets) (valueAt (m .rows) k) ≡ false
-LookedAt m k Looked.Unfit = unfitAt (m .table) (m .octets) (m .rows) k ≡ true
-LookedAt m k Looked.Absent = (goodValue (m .octets) (valueAt (m .rows) k) ≡ true) × (present (valueAt (m .rows) k) ≡ false)
-LookedAt m k (Looked.Takes n) =
-    (goodValue (m .octets) (valueAt (m .rows) k) ≡ true) × (unfitAt (m .table) (m .octets) (m .rows) k ≡ false)
+-- whether a row is malformed, or is present under another IEI than its first, with a place that the log does not name
+unfoldable pub wrongAt : Filled → ℕ → ℕ → Bool
+wrongAt m set k = not (goodValue (m .octets) (valueAt (m .rows) k)) || apartBy (m .rows) set k (firstIei (m .table) k)
+
+abbrev pub wrong : Filled → ℕ → Bool
+wrong m set = anyOf (wrongAt m set) (length (m .table))
+
+-- one place, by the set of the logged ones
+abbrev pub LookedAt : Filled → ℕ → ℕ → Looked → Type 0
+LookedAt m set k Looked.Bad = wrongAt m set k ≡ true
+LookedAt m set k Looked.Unfit = unfitAt (m .table) (m .octets) (m .rows) k ≡ true
+LookedAt m set k Looked.Absent = (wrongAt m set k ≡ false) × (present (valueAt (m .rows) k) ≡ false)
+LookedAt m set k (Looked.Takes n) =
+    (wrongAt m set k ≡ false) × (unfitAt (m .table) (m .octets) (m .rows) k ≡ false)
     × (present (valueAt (m .rows) k) ≡ true) × (n ≡ placeLength m k) × (n ≤ mostIe)
 
 -- with a present place, by the set of the logged ones
@@ -98,8 +102,8 @@ AddedAre m set added = (k : ℕ) → k < length (m .table) → bit k added ≡ (
 
 -- all of them, by the set of the logged ones
 abbrev pub SurveyedBy : Filled → ℕ → Surveyed → Type 0
-SurveyedBy m set Surveyed.Malformed = badRows (m .octets) (m .rows) (length (m .table)) ≡ true
-SurveyedBy m set (Surveyed.Unfit k) = (badRows (m .octets) (m .rows) (length (m .table)) ≡ false) × (unfit (m .table) (m .octets) (m .rows) ≡ some k)
+SurveyedBy m set Surveyed.Malformed = wrong m set ≡ true
+SurveyedBy m set (Surveyed.Unfit k) = (wrong m set ≡ false) × (unfit (m .table) (m .octets) (m .rows) ≡ some k)
 SurveyedBy m set (Surveyed.Added t) =
-    (badRows (m .octets) (m .rows) (length (m .table)) ≡ false) × (unfit (m .table) (m .octets) (m .rows) ≡ none)
+    (wrong m set ≡ false) × (unfit (m .table) (m .octets) (m .rows) ≡ none)
     × AddedAre m set (setOf (t .seen)) × (t .octets ≡ length (addedOctets m (setOf (t .seen)) 0 (length (m .table)))) × (t .octets ≤ mostIe * 128)

@@ -70,6 +70,9 @@ fn encode_formed<'a>(
     ensures { λ r. ⌜ Encodes (writing (now (table .entry)) (now (rows .entry)) (now (received .entry)) (usedUp (now (set .entry))) (usedUp (now (order .entry))) (usedUp (now (kept .entry))) (now (output .entry))) r (now (output .exit)) ⌝ }
 {
     let t = logged_len(table, index, rows, received, set, order);
+    if t.apart {
+        return Encoded::Malformed(Which::Rows);
+    }
     let seen = t.seen;
     match survey(table, rows, received, set, seen) {
         Surveyed::Malformed => Encoded::Malformed(Which::Rows),
@@ -156,7 +159,7 @@ fn encode_by_index<'a>(
     if too_long(kept, kept_used, MOST_LOG) {
         return Encoded::TooLong;
     }
-    if rows.len() < 3 * places(table) {
+    if rows.len() < 4 * places(table) {
         return Encoded::NoRows;
     }
     encode_used(

@@ -1,5 +1,7 @@
 // What writing needs to know before an octet is written: whether the rows are well formed and the values fit, how many octets there
 // are to write, which places the order log names, and which are added.
+use agreement::apart_with;
+use agreement::is_unlike;
 use order::Front;
 use order::Placed;
 use order::entry_len;
@@ -13,7 +15,6 @@ use rows::index::place_of;
 use seen::Seen;
 use seen::seen_has;
 use seen::seen_with;
-use values::row::any_bad;
 use values::row::does_fit;
 use values::row::is_good;
 use values::row::row_at;
@@ -22,24 +23,30 @@ ghost use mathlib.Core.Path.{_≡_};
 ghost use mathlib.Core.Option.{none};
 ghost use Prim.Native.Nat.{_≤_, _<_};
 ghost use lib.ListN.{length};
-ghost use Rattle.definitions.specs.Basic.{pick};
 ghost use Rattle.definitions.specs.Rows.{rowsOf, firstBad};
-ghost use Rattle.definitions.specs.Values.{badRows};
+ghost use Rattle.definitions.specs.Values.{anyOf};
 ghost use Rattle.definitions.proofs.LogSteps.{OrderAt};
 ghost use Rattle.order.specs.Order.{placedAs};
 ghost use Rattle.seen.specs.Seen.{setOf};
-ghost use Rattle.values.specs.Rows.{sourcesOf};
 ghost use Rattle.rows.specs.Forms.{formAs};
-ghost use Rattle.writing.specs.Walks.{filledOf};
-ghost use Rattle.writing.specs.Sizes.{takes, placeLength, mostIe, Sized, Tallied, LoggedBy, addedTo, LookedAt, SurveyedBy};
+ghost use Rattle.agreement.specs.Agreed.{entryApart};
+ghost use Rattle.writing.specs.Walks.{filledOf, IndexIs};
+ghost use Rattle.writing.specs.Sizes.{takes, placeLength, mostIe, Sized, Tallied, foundBy, LoggedBy, addedTo, wrongAt, LookedAt, SurveyedBy};
 
-// The octets of some elements, and the places of these: of those under logged IEIs, or of the added ones.
+// The octets of the added elements, and their places.
 pub struct Tally {
     pub octets: usize,
     pub seen: Seen,
 }
 
-// A place looked at: its row is malformed, its value does not fit, it is absent, or its element takes so many octets.
+// The octets of the elements under logged IEIs, their places, and whether a row disagrees with the earliest IEI of its place.
+pub struct Logged {
+    pub octets: usize,
+    pub seen: Seen,
+    pub apart: bool,
+}
+
+// A place looked at: its row is malformed or disagrees with the order log, its value does not fit, it is absent, or its element takes so many octets.
 pub enum Looked {
     Bad,
     Unfit,
@@ -47,7 +54,7 @@ pub enum Looked {
     Takes(usize),
 }
 
-// What all places say: a row is malformed, a place is the lowest whose value does not fit, or the added elements are these.
+// What all places say: a row is malformed or disagrees, a place is the lowest whose value does not fit, or the added elements are these.
 pub enum Surveyed {
     Malformed,
     Unfit(usize),
@@ -114,6 +121,28 @@ fn with_entry<'a>(
     }
 }
 
+// Whether a row disagrees with the log, with one entry more.
+fn entry_apart(
+    table: &[u32],
+    index: &[u8],
+    rows: &[u32],
+    seen: Seen,
+    apart: bool,
+    entry: Placed,
+) -> bool
+    requires { ⌜ (firstBad (rowsOf (now table)) ≡ none) × IndexIs (now table) (now index) ⌝ }
+    ensures { λ r. ⌜ r ≡ entryApart (rowsOf (now (table .entry))) (now (rows .entry)) (placedAs entry) (setOf seen) apart ⌝ }
+{
+    match entry {
+        Placed::Known(iei) => match place_of(index, iei) {
+            Place::At(k) => apart_with(rows, seen, apart, k, iei as u32),
+            Place::Nowhere => apart,
+        },
+        Placed::Unknown => apart,
+        Placed::Ignored(_) => apart,
+    }
+}
+
 // The whole order log, which is well formed.
 pub(crate) fn logged_len<'a>(
     table: &[u32],
@@ -122,7 +151,7 @@ pub(crate) fn logged_len<'a>(
     received: &'a [u8],
     set: &'a [u8],
     order: &[u8],
-) -> Tally
+) -> Logged
     requires { ⌜ Sized (now table) (now index) (now received) (now set) × (length (now order) ≤ 131070) × OrderAt (now order) 0 ⌝ }
     ensures { λ r. ⌜ LoggedBy (filledOf (now (table .entry)) (now (rows .entry)) (now (received .entry)) (now (set .entry))) (now (order .entry)) r ⌝ }
 {
@@ -131,29 +160,77 @@ pub(crate) fn logged_len<'a>(
         octets: 0,
         seen: Seen { low: 0, high: 0 },
     };
+    let mut apart = false;
     while at < order.len() {
         match front_at(&order[at..]) {
             Front::Is(entry) => {
+                let seen = t.seen;
+                apart = entry_apart(table, index, rows, seen, apart, entry);
                 t = with_entry(table, index, rows, received, set, t, entry);
                 at += entry_len(entry);
             }
             Front::Not => {
-                return t;
+                return found(t, apart);
             }
         }
     }
-    t
+    found(t, apart)
 }
 
-// One look at a place.
-fn look<'a>(table: &[u32], rows: &[u32], received: &'a [u8], set: &'a [u8], place: usize) -> Looked
-    requires { ⌜ (firstBad (rowsOf (now table)) ≡ none) × (length (now received) ≤ 65535) × (length (now set) ≤ 65535) ⌝ }
-    ensures { λ r. ⌜ LookedAt (filledOf (now (table .entry)) (now (rows .entry)) (now (received .entry)) (now (set .entry))) place r ⌝ }
+// What a walk over the log found.
+fn found(t: Tally, apart: bool) -> Logged
+    ensures { λ r. ⌜ r ≡ foundBy t apart ⌝ }
+{
+    let seen = t.seen;
+    Logged {
+        octets: t.octets,
+        seen,
+        apart,
+    }
+}
+
+// Whether a place's row is malformed, or it is present, the order log does not name it, and its IEI is not its first.
+fn is_wrong(
+    table: &[u32],
+    rows: &[u32],
+    received: &[u8],
+    set: &[u8],
+    seen: Seen,
+    place: usize,
+) -> bool
+    requires { ⌜ firstBad (rowsOf (now table)) ≡ none ⌝ }
+    ensures { λ r. ⌜ r ≡ wrongAt (filledOf (now (table .entry)) (now (rows .entry)) (now (received .entry)) (now (set .entry))) (setOf seen) place ⌝ }
 {
     let row = row_at(rows, place);
     if !is_good(row, received, set) {
+        return true;
+    }
+    if row.source == 0 {
+        return false;
+    }
+    let n = numbers_at(table, place);
+    if !is_unlike(row, n.first) {
+        return false;
+    }
+    !seen_has(seen, place)
+}
+
+// One look at a place, by the set of those in the order log.
+fn look<'a>(
+    table: &[u32],
+    rows: &[u32],
+    received: &'a [u8],
+    set: &'a [u8],
+    seen: Seen,
+    place: usize,
+) -> Looked
+    requires { ⌜ (firstBad (rowsOf (now table)) ≡ none) × (length (now received) ≤ 65535) × (length (now set) ≤ 65535) ⌝ }
+    ensures { λ r. ⌜ LookedAt (filledOf (now (table .entry)) (now (rows .entry)) (now (received .entry)) (now (set .entry))) (setOf seen) place r ⌝ }
+{
+    if is_wrong(table, rows, received, set, seen, place) {
         return Looked::Bad;
     }
+    let row = row_at(rows, place);
     if row.source == 0 {
         return Looked::Absent;
     }
@@ -181,14 +258,19 @@ fn with_added(seen: Seen, place: usize, len: usize, t: Tally) -> Tally
     }
 }
 
-// A place is the lowest whose value does not fit; but a row that is malformed comes first.
-fn unfit_or_bad(rows: &[u32], n: usize, received: &[u8], set: &[u8], place: usize) -> Surveyed
-    ensures { λ r. ⌜ r ≡ pick (badRows (sourcesOf (now (received .entry)) (now (set .entry))) (now (rows .entry)) n) Surveyed.Malformed (Surveyed.Unfit place) ⌝ }
+// Whether a row of the first n is wrong.
+fn any_wrong(table: &[u32], rows: &[u32], received: &[u8], set: &[u8], seen: Seen, n: usize) -> bool
+    requires { ⌜ firstBad (rowsOf (now table)) ≡ none ⌝ }
+    ensures { λ r. ⌜ r ≡ anyOf (wrongAt (filledOf (now (table .entry)) (now (rows .entry)) (now (received .entry)) (now (set .entry))) (setOf seen)) n ⌝ }
 {
-    if any_bad(rows, n, received, set) {
-        return Surveyed::Malformed;
+    let mut k = 0;
+    while k < n {
+        if is_wrong(table, rows, received, set, seen, k) {
+            return true;
+        }
+        k += 1;
     }
-    Surveyed::Unfit(place)
+    false
 }
 
 // One look at each place, by the set of those in the order log.
@@ -209,12 +291,15 @@ pub(crate) fn survey<'a>(
     };
     let mut k = 0;
     while k < n {
-        match look(table, rows, received, set, k) {
+        match look(table, rows, received, set, seen, k) {
             Looked::Bad => {
                 return Surveyed::Malformed;
             }
             Looked::Unfit => {
-                return unfit_or_bad(rows, n, received, set, k);
+                if any_wrong(table, rows, received, set, seen, n) {
+                    return Surveyed::Malformed;
+                }
+                return Surveyed::Unfit(k);
             }
             Looked::Absent => {
                 k += 1;

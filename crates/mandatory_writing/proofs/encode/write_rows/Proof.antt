@@ -6,7 +6,7 @@ use mathlib.Core.Path.{_≡_, ap, ap₂, sym, _∙_}
 use mathlib.Core.List.{List}
 use lib.ListN.{length, getD, length-take, length-drop}
 use Rattle.definitions.specs.Mandatory.{MandatoryForm, mandatoryRowsOf, mandatoryRowAt, mandatoryForm, lowBits, encodedRow}
-use Rattle.definitions.specs.Values.{Value, valueAt, octetsAt}
+use Rattle.definitions.specs.Values.{Value, mandatoryWidth, valueIn, octetsAt}
 use Rattle.definitions.proofs.Lists.{lent-over}
 use Rattle.rows.specs.Forms.{mandatoryFormAs}
 use Rattle.values.specs.Rows.{sourcesOf}
@@ -30,8 +30,8 @@ mandatory-rows-requires c κs = search needs
 loop-holds : tie.Need-loop-holds Inv-loop μ-loop
 loop-holds c = laying (mandatoryRowsOf (c .before .before .before .before .before .before .args .table .now)) (sourcesOf (c .before .before .before .before .before .before .args .received .now) (c .before .before .before .before .before .before .args .set .now)) (c .before .before .before .before .before .before .args .rows .now) (c .before .before .before .before .before .before .args .output .now) (c .before .before .before .before .before .before .pre .room)
 
-row-at-requires : tie.Need-row-at-requires Inv-loop μ-loop
-row-at-requires c κs = search needs
+mandatory-row-at-requires : tie.Need-mandatory-row-at-requires Inv-loop μ-loop
+mandatory-row-at-requires c κs = search needs
 
 value-octets-requires : tie.Need-value-octets-requires Inv-loop μ-loop
 value-octets-requires c κs = search needs
@@ -49,22 +49,22 @@ part-put-row-end : tie.Need-part-put-row-end Inv-loop μ-loop
 part-put-row-end c = search needs
 
 -- the row that is written is the definition's
-row-here : (c : tie.After-put-row-arg Inv-loop μ-loop) → encodedRow (mandatoryFormAs (c .before .mandatory-form-at .result)) (c .before .before .before .before .before .loop .low) (c .before .before .before .row-at .result .source) (c .before .before .value-octets .result .now) ≡ (encodedRow (mandatoryForm (mandatoryRowAt (mandatoryRowsOf (c .before .before .before .before .before .before .before .before .before .before .before .before .args .table .now)) (c .before .before .before .before .before .loop .k))) (c .before .before .before .before .before .loop .low) ((valueAt (c .before .before .before .before .before .before .before .before .before .before .before .before .args .rows .now) (c .before .before .before .before .before .loop .k)) .source) (octetsAt (sourcesOf (c .before .before .before .before .before .before .before .before .before .before .before .before .args .received .now) (c .before .before .before .before .before .before .before .before .before .before .before .before .args .set .now)) (valueAt (c .before .before .before .before .before .before .before .before .before .before .before .before .args .rows .now) (c .before .before .before .before .before .loop .k))))
-row-here c = row-is (c .before .before .before .before .before .loop .low) (c .before .mandatory-form-at .ensures) (ap (λ (v : Value). v .source) (c .before .before .before .row-at .ensures)) (c .before .before .value-octets .ensures .0 ∙ ap (octetsAt (sourcesOf (c .before .before .before .before .before .before .before .before .before .before .before .before .args .received .now) (c .before .before .before .before .before .before .before .before .before .before .before .before .args .set .now))) (c .before .before .before .row-at .ensures))
+row-here : (c : tie.After-put-row-arg Inv-loop μ-loop) → encodedRow (mandatoryFormAs (c .before .mandatory-form-at .result)) (c .before .before .before .before .before .loop .low) (c .before .before .before .mandatory-row-at .result .source) (c .before .before .value-octets .result .now) ≡ (encodedRow (mandatoryForm (mandatoryRowAt (mandatoryRowsOf (c .before .before .before .before .before .before .before .before .before .before .before .before .args .table .now)) (c .before .before .before .before .before .loop .k))) (c .before .before .before .before .before .loop .low) ((valueIn mandatoryWidth (c .before .before .before .before .before .before .before .before .before .before .before .before .args .rows .now) (c .before .before .before .before .before .loop .k)) .source) (octetsAt (sourcesOf (c .before .before .before .before .before .before .before .before .before .before .before .before .args .received .now) (c .before .before .before .before .before .before .before .before .before .before .before .before .args .set .now)) (valueIn mandatoryWidth (c .before .before .before .before .before .before .before .before .before .before .before .before .args .rows .now) (c .before .before .before .before .before .loop .k))))
+row-here c = row-is (c .before .before .before .before .before .loop .low) (c .before .mandatory-form-at .ensures) (ap (λ (v : Value). v .source) (c .before .before .before .mandatory-row-at .ensures)) (c .before .before .value-octets .ensures .0 ∙ ap (octetsAt (sourcesOf (c .before .before .before .before .before .before .before .before .before .before .before .before .args .received .now) (c .before .before .before .before .before .before .before .before .before .before .before .before .args .set .now))) (c .before .before .before .mandatory-row-at .ensures))
 
 put-row-requires : tie.Need-put-row-requires Inv-loop μ-loop
 put-row-requires c κs = (
-  fits-is (c .before .mandatory-form-at .ensures) (ap (λ (v : Value). v .source) (c .before .before .before .row-at .ensures)) (c .before .before .value-octets .ensures .0 ∙ ap (octetsAt (sourcesOf (c .before .before .before .before .before .before .before .before .before .before .before .before .args .received .now) (c .before .before .before .before .before .before .before .before .before .before .before .before .args .set .now))) (c .before .before .before .row-at .ensures)) ∙ fits-here (mandatoryRowsOf (c .before .before .before .before .before .before .before .before .before .before .before .before .args .table .now)) (sourcesOf (c .before .before .before .before .before .before .before .before .before .before .before .before .args .received .now) (c .before .before .before .before .before .before .before .before .before .before .before .before .args .set .now)) (c .before .before .before .before .before .before .before .before .before .before .before .before .args .rows .now) (c .before .before .before .before .before .before .before .before .before .before .before .before .pre .fit) (c .before .before .before .before .before .loop .k) (omega (arith, c .before .before .before .before .before .before .mandatory-rows .ensures)),
+  fits-is (c .before .mandatory-form-at .ensures) (ap (λ (v : Value). v .source) (c .before .before .before .mandatory-row-at .ensures)) (c .before .before .value-octets .ensures .0 ∙ ap (octetsAt (sourcesOf (c .before .before .before .before .before .before .before .before .before .before .before .before .args .received .now) (c .before .before .before .before .before .before .before .before .before .before .before .before .args .set .now))) (c .before .before .before .mandatory-row-at .ensures)) ∙ fits-here (mandatoryRowsOf (c .before .before .before .before .before .before .before .before .before .before .before .before .args .table .now)) (sourcesOf (c .before .before .before .before .before .before .before .before .before .before .before .before .args .received .now) (c .before .before .before .before .before .before .before .before .before .before .before .before .args .set .now)) (c .before .before .before .before .before .before .before .before .before .before .before .before .args .rows .now) (c .before .before .before .before .before .before .before .before .before .before .before .before .pre .fit) (c .before .before .before .before .before .loop .k) (omega (arith, c .before .before .before .before .before .before .mandatory-rows .ensures)),
   rw (row-here c) (simp (length-take, length-drop) (omega (arith, row-room (mandatoryRowsOf (c .before .before .before .before .before .before .before .before .before .before .before .before .args .table .now)) (sourcesOf (c .before .before .before .before .before .before .before .before .before .before .before .before .args .received .now) (c .before .before .before .before .before .before .before .before .before .before .before .before .args .set .now)) (c .before .before .before .before .before .before .before .before .before .before .before .before .args .rows .now) (c .before .before .before .before .before .before .before .before .before .before .before .before .args .output .now) (c .before .before .before .before .before .loop .k) (c .before .before .before .before .before .loop .at) (c .before .before .before .before .before .loop .low) (c .before .before .before .before .before .loop .output) (c .before .before .before .before .before .loop .inv) (omega (arith, c .before .before .before .before .before .before .mandatory-rows .ensures))))),
   c .before .before .before .before .before .loop .inv .half,
 )
 
 encoded-size-requires : tie.Need-encoded-size-requires Inv-loop μ-loop
-encoded-size-requires c κs = rw (c .before .before .before .before .before .value-octets .ensures .0 ∙ ap (octetsAt (sourcesOf (c .before .before .before .before .before .before .before .before .before .before .before .before .before .before .before .args .received .now) (c .before .before .before .before .before .before .before .before .before .before .before .before .before .before .before .args .set .now))) (c .before .before .before .before .before .before .row-at .ensures)) (value-short (c .before .before .before .before .before .before .before .before .before .before .before .before .before .before .before .args .received .now) (c .before .before .before .before .before .before .before .before .before .before .before .before .before .before .before .args .set .now) (valueAt (c .before .before .before .before .before .before .before .before .before .before .before .before .before .before .before .args .rows .now) (c .before .before .before .before .before .before .before .before .loop .k)) (c .before .before .before .before .before .before .before .before .before .before .before .before .before .before .before .pre .short))
+encoded-size-requires c κs = rw (c .before .before .before .before .before .value-octets .ensures .0 ∙ ap (octetsAt (sourcesOf (c .before .before .before .before .before .before .before .before .before .before .before .before .before .before .before .args .received .now) (c .before .before .before .before .before .before .before .before .before .before .before .before .before .before .before .args .set .now))) (c .before .before .before .before .before .before .mandatory-row-at .ensures)) (value-short (c .before .before .before .before .before .before .before .before .before .before .before .before .before .before .before .args .received .now) (c .before .before .before .before .before .before .before .before .before .before .before .before .before .before .before .args .set .now) (valueIn mandatoryWidth (c .before .before .before .before .before .before .before .before .before .before .before .before .before .before .before .args .rows .now) (c .before .before .before .before .before .before .before .before .loop .k)) (c .before .before .before .before .before .before .before .before .before .before .before .before .before .before .before .pre .short))
 
 -- how many octets it has
-size-here : (c : tie.After-encoded-size Inv-loop μ-loop) → c .encoded-size .result ≡ length (encodedRow (mandatoryForm (mandatoryRowAt (mandatoryRowsOf (c .before .before .before .before .before .before .before .before .before .before .before .before .before .before .before .before .args .table .now)) (c .before .before .before .before .before .before .before .before .before .loop .k))) (c .before .before .before .before .before .before .before .before .before .loop .low) ((valueAt (c .before .before .before .before .before .before .before .before .before .before .before .before .before .before .before .before .args .rows .now) (c .before .before .before .before .before .before .before .before .before .loop .k)) .source) (octetsAt (sourcesOf (c .before .before .before .before .before .before .before .before .before .before .before .before .before .before .before .before .args .received .now) (c .before .before .before .before .before .before .before .before .before .before .before .before .before .before .before .before .args .set .now)) (valueAt (c .before .before .before .before .before .before .before .before .before .before .before .before .before .before .before .before .args .rows .now) (c .before .before .before .before .before .before .before .before .before .loop .k))))
-size-here c = c .encoded-size .ensures ∙ ap₂ (λ (f : MandatoryForm) (s : List ℕ). encodedSize f (length s)) (c .before .before .before .before .before .mandatory-form-at .ensures) (c .before .before .before .before .before .before .value-octets .ensures .0 ∙ ap (octetsAt (sourcesOf (c .before .before .before .before .before .before .before .before .before .before .before .before .before .before .before .before .args .received .now) (c .before .before .before .before .before .before .before .before .before .before .before .before .before .before .before .before .args .set .now))) (c .before .before .before .before .before .before .before .row-at .ensures)) ∙ sym (encoded-size (mandatoryForm (mandatoryRowAt (mandatoryRowsOf (c .before .before .before .before .before .before .before .before .before .before .before .before .before .before .before .before .args .table .now)) (c .before .before .before .before .before .before .before .before .before .loop .k))) (c .before .before .before .before .before .before .before .before .before .loop .low) ((valueAt (c .before .before .before .before .before .before .before .before .before .before .before .before .before .before .before .before .args .rows .now) (c .before .before .before .before .before .before .before .before .before .loop .k)) .source) (octetsAt (sourcesOf (c .before .before .before .before .before .before .before .before .before .before .before .before .before .before .before .before .args .received .now) (c .before .before .before .before .before .before .before .before .before .before .before .before .before .before .before .before .args .set .now)) (valueAt (c .before .before .before .before .before .before .before .before .before .before .before .before .before .before .before .before .args .rows .now) (c .before .before .before .before .before .before .before .before .before .loop .k))))
+size-here : (c : tie.After-encoded-size Inv-loop μ-loop) → c .encoded-size .result ≡ length (encodedRow (mandatoryForm (mandatoryRowAt (mandatoryRowsOf (c .before .before .before .before .before .before .before .before .before .before .before .before .before .before .before .before .args .table .now)) (c .before .before .before .before .before .before .before .before .before .loop .k))) (c .before .before .before .before .before .before .before .before .before .loop .low) ((valueIn mandatoryWidth (c .before .before .before .before .before .before .before .before .before .before .before .before .before .before .before .before .args .rows .now) (c .before .before .before .before .before .before .before .before .before .loop .k)) .source) (octetsAt (sourcesOf (c .before .before .before .before .before .before .before .before .before .before .before .before .before .before .before .before .args .received .now) (c .before .before .before .before .before .before .before .before .before .before .before .before .before .before .before .before .args .set .now)) (valueIn mandatoryWidth (c .before .before .before .before .before .before .before .before .before .before .before .before .before .before .before .before .args .rows .now) (c .before .before .before .before .before .before .before .before .before .loop .k))))
+size-here c = c .encoded-size .ensures ∙ ap₂ (λ (f : MandatoryForm) (s : List ℕ). encodedSize f (length s)) (c .before .before .before .before .before .mandatory-form-at .ensures) (c .before .before .before .before .before .before .value-octets .ensures .0 ∙ ap (octetsAt (sourcesOf (c .before .before .before .before .before .before .before .before .before .before .before .before .before .before .before .before .args .received .now) (c .before .before .before .before .before .before .before .before .before .before .before .before .before .before .before .before .args .set .now))) (c .before .before .before .before .before .before .before .mandatory-row-at .ensures)) ∙ sym (encoded-size (mandatoryForm (mandatoryRowAt (mandatoryRowsOf (c .before .before .before .before .before .before .before .before .before .before .before .before .before .before .before .before .args .table .now)) (c .before .before .before .before .before .before .before .before .before .loop .k))) (c .before .before .before .before .before .before .before .before .before .loop .low) ((valueIn mandatoryWidth (c .before .before .before .before .before .before .before .before .before .before .before .before .before .before .before .before .args .rows .now) (c .before .before .before .before .before .before .before .before .before .loop .k)) .source) (octetsAt (sourcesOf (c .before .before .before .before .before .before .before .before .before .before .before .before .before .before .before .before .args .received .now) (c .before .before .before .before .before .before .before .before .before .before .before .before .before .before .before .before .args .set .now)) (valueIn mandatoryWidth (c .before .before .before .before .before .before .before .before .before .before .before .before .before .before .before .before .args .rows .now) (c .before .before .before .before .before .before .before .before .before .loop .k))))
 
 add-at : tie.Need-add-at Inv-loop μ-loop
 add-at c = omega (arith, size-here c, row-room (mandatoryRowsOf (c .before .before .before .before .before .before .before .before .before .before .before .before .before .before .before .before .args .table .now)) (sourcesOf (c .before .before .before .before .before .before .before .before .before .before .before .before .before .before .before .before .args .received .now) (c .before .before .before .before .before .before .before .before .before .before .before .before .before .before .before .before .args .set .now)) (c .before .before .before .before .before .before .before .before .before .before .before .before .before .before .before .before .args .rows .now) (c .before .before .before .before .before .before .before .before .before .before .before .before .before .before .before .before .args .output .now) (c .before .before .before .before .before .before .before .before .before .loop .k) (c .before .before .before .before .before .before .before .before .before .loop .at) (c .before .before .before .before .before .before .before .before .before .loop .low) (c .before .before .before .before .before .before .before .before .before .loop .output) (c .before .before .before .before .before .before .before .before .before .loop .inv) (omega (arith, c .before .before .before .before .before .before .before .before .before .before .mandatory-rows .ensures)))
@@ -82,7 +82,7 @@ loop-again : tie.Need-loop-again Inv-loop μ-loop
 loop-again c =
     let q = row-room (mandatoryRowsOf (c .before .before .before .before .before .before .before .before .before .before .before .before .before .before .before .before .before .args .table .now)) (sourcesOf (c .before .before .before .before .before .before .before .before .before .before .before .before .before .before .before .before .before .args .received .now) (c .before .before .before .before .before .before .before .before .before .before .before .before .before .before .before .before .before .args .set .now)) (c .before .before .before .before .before .before .before .before .before .before .before .before .before .before .before .before .before .args .rows .now) (c .before .before .before .before .before .before .before .before .before .before .before .before .before .before .before .before .before .args .output .now) (c .before .before .before .before .before .before .before .before .before .before .loop .k) (c .before .before .before .before .before .before .before .before .before .before .loop .at) (c .before .before .before .before .before .before .before .before .before .before .loop .low) (c .before .before .before .before .before .before .before .before .before .before .loop .output) (c .before .before .before .before .before .before .before .before .before .before .loop .inv) (omega (arith, c .before .before .before .before .before .before .before .before .before .before .before .mandatory-rows .ensures)) in
     rw (size-here (c .before))
-    (laid-one (mandatoryRowsOf (c .before .before .before .before .before .before .before .before .before .before .before .before .before .before .before .before .before .args .table .now)) (sourcesOf (c .before .before .before .before .before .before .before .before .before .before .before .before .before .before .before .before .before .args .received .now) (c .before .before .before .before .before .before .before .before .before .before .before .before .before .before .before .before .before .args .set .now)) (c .before .before .before .before .before .before .before .before .before .before .before .before .before .before .before .before .before .args .rows .now) (c .before .before .before .before .before .before .before .before .before .before .before .before .before .before .before .before .before .args .output .now) (c .before .before .before .before .before .before .before .before .before .before .loop .k) (c .before .before .before .before .before .before .before .before .before .before .loop .at) (c .before .before .before .before .before .before .before .before .before .before .loop .low) (c .before .before .before .before .before .before .before .before .before .before .loop .output) (c .before .before .before .before .before .before .before .before .before .before .loop .inv) (omega (arith, c .before .before .before .before .before .before .before .before .before .before .before .mandatory-rows .ensures)) (rw (c .before .before .before .before .put-row .ensures, row-here (c .before .before .before .before .before)) (lent-over (c .before .before .before .before .before .before .before .before .before .before .loop .at) (encodedRow (mandatoryForm (mandatoryRowAt (mandatoryRowsOf (c .before .before .before .before .before .before .before .before .before .before .before .before .before .before .before .before .before .args .table .now)) (c .before .before .before .before .before .before .before .before .before .before .loop .k))) (c .before .before .before .before .before .before .before .before .before .before .loop .low) ((valueAt (c .before .before .before .before .before .before .before .before .before .before .before .before .before .before .before .before .before .args .rows .now) (c .before .before .before .before .before .before .before .before .before .before .loop .k)) .source) (octetsAt (sourcesOf (c .before .before .before .before .before .before .before .before .before .before .before .before .before .before .before .before .before .args .received .now) (c .before .before .before .before .before .before .before .before .before .before .before .before .before .before .before .before .before .args .set .now)) (valueAt (c .before .before .before .before .before .before .before .before .before .before .before .before .before .before .before .before .before .args .rows .now) (c .before .before .before .before .before .before .before .before .before .before .loop .k)))) (c .before .before .before .before .before .before .before .before .before .before .loop .output) (omega arith))) (c .low-bits .ensures .0 ∙ ap (λ (s : List ℕ). lowBits (getD s 0 0)) (c .before .before .before .before .before .before .before .value-octets .ensures .0 ∙ ap (octetsAt (sourcesOf (c .before .before .before .before .before .before .before .before .before .before .before .before .before .before .before .before .before .args .received .now) (c .before .before .before .before .before .before .before .before .before .before .before .before .before .before .before .before .before .args .set .now))) (c .before .before .before .before .before .before .before .before .row-at .ensures))) (c .low-bits .ensures .1))
+    (laid-one (mandatoryRowsOf (c .before .before .before .before .before .before .before .before .before .before .before .before .before .before .before .before .before .args .table .now)) (sourcesOf (c .before .before .before .before .before .before .before .before .before .before .before .before .before .before .before .before .before .args .received .now) (c .before .before .before .before .before .before .before .before .before .before .before .before .before .before .before .before .before .args .set .now)) (c .before .before .before .before .before .before .before .before .before .before .before .before .before .before .before .before .before .args .rows .now) (c .before .before .before .before .before .before .before .before .before .before .before .before .before .before .before .before .before .args .output .now) (c .before .before .before .before .before .before .before .before .before .before .loop .k) (c .before .before .before .before .before .before .before .before .before .before .loop .at) (c .before .before .before .before .before .before .before .before .before .before .loop .low) (c .before .before .before .before .before .before .before .before .before .before .loop .output) (c .before .before .before .before .before .before .before .before .before .before .loop .inv) (omega (arith, c .before .before .before .before .before .before .before .before .before .before .before .mandatory-rows .ensures)) (rw (c .before .before .before .before .put-row .ensures, row-here (c .before .before .before .before .before)) (lent-over (c .before .before .before .before .before .before .before .before .before .before .loop .at) (encodedRow (mandatoryForm (mandatoryRowAt (mandatoryRowsOf (c .before .before .before .before .before .before .before .before .before .before .before .before .before .before .before .before .before .args .table .now)) (c .before .before .before .before .before .before .before .before .before .before .loop .k))) (c .before .before .before .before .before .before .before .before .before .before .loop .low) ((valueIn mandatoryWidth (c .before .before .before .before .before .before .before .before .before .before .before .before .before .before .before .before .before .args .rows .now) (c .before .before .before .before .before .before .before .before .before .before .loop .k)) .source) (octetsAt (sourcesOf (c .before .before .before .before .before .before .before .before .before .before .before .before .before .before .before .before .before .args .received .now) (c .before .before .before .before .before .before .before .before .before .before .before .before .before .before .before .before .before .args .set .now)) (valueIn mandatoryWidth (c .before .before .before .before .before .before .before .before .before .before .before .before .before .before .before .before .before .args .rows .now) (c .before .before .before .before .before .before .before .before .before .before .loop .k)))) (c .before .before .before .before .before .before .before .before .before .before .loop .output) (omega arith))) (c .low-bits .ensures .0 ∙ ap (λ (s : List ℕ). lowBits (getD s 0 0)) (c .before .before .before .before .before .before .before .value-octets .ensures .0 ∙ ap (octetsAt (sourcesOf (c .before .before .before .before .before .before .before .before .before .before .before .before .before .before .before .before .before .args .received .now) (c .before .before .before .before .before .before .before .before .before .before .before .before .before .before .before .before .before .args .set .now))) (c .before .before .before .before .before .before .before .before .mandatory-row-at .ensures))) (c .low-bits .ensures .1))
 
 same-length : tie.Need-same-length Inv-loop μ-loop
 same-length c = c .before .loop .inv .size
@@ -98,7 +98,7 @@ write-rows-spec =
     μ-loop
     mandatory-rows-requires
     loop-holds
-    row-at-requires
+    mandatory-row-at-requires
     value-octets-requires
     mandatory-form-at-requires
     sub-put-row

@@ -25,13 +25,13 @@ clear-rows-requires : tie.Need-clear-rows-requires
 clear-rows-requires c κs = search needs
 
 -- every element entered into the cleared rows
-cleared : (c : tie.After-clear-rows) → let a = c .before .before .before .before .before .before .before .before .args in let t = rowsOf (a .table .now) in let es = elementsOf (parted t (a .tlve-start) (a .option) (a .octets .now)) in (rows′ : List ℕ) → rows′ ≡ over (replicate (3 * c .before .places .result) 0) (a .rows .now) → enteredAll t es rows′ ≡ over (placeRows t es) (a .rows .now)
+cleared : (c : tie.After-clear-rows) → let a = c .before .before .before .before .before .before .before .before .args in let t = rowsOf (a .table .now) in let es = elementsOf (parted t (a .tlve-start) (a .option) (a .octets .now)) in (rows′ : List ℕ) → rows′ ≡ over (replicate (4 * c .before .places .result) 0) (a .rows .now) → enteredAll t es rows′ ≡ over (placeRows t es) (a .rows .now)
 cleared c rows′ q =
     let a = c .before .before .before .before .before .before .before .before .args in
     let t = rowsOf (a .table .now) in
     let es = elementsOf (parted t (a .tlve-start) (a .option) (a .octets .now)) in
     let r = c .before .before .before .before .before .before .before .before .pre in
-    ap (enteredAll t es) (q ∙ ap (λ (m : ℕ). over (replicate (3 * m) 0) (a .rows .now)) (c .before .places .ensures))
+    ap (enteredAll t es) (q ∙ ap (λ (m : ℕ). over (replicate (4 * m) 0) (a .rows .now)) (c .before .places .ensures))
     ∙ all-entered t (r .0 .passes) (a .tlve-start) (a .option) (a .octets .now) es (r .1) (a .rows .now)
 
 fill-elements-requires : tie.Need-fill-elements-requires

@@ -1,4 +1,4 @@
--- `plain_many` copies out what the pass found among 384 zeros; where the table does not say all, nothing is copied.
+-- `plain_many` copies out what the pass found among 512 zeros; where the table does not say all, nothing is copied.
 -- The rows found are those of the part's places.
 use native.Mathlib.Omega.{arith}
 use Rattle.definitions.specs.Rows.{rowsOf}
@@ -23,10 +23,10 @@ same-length : tie.Need-same-length
 same-length c = search needs
 
 returns : tie.Need-returns
-returns c start option = let a = c .before .before .before .before .before .before .before .before .before .before .before .before .args in let r = c .before .before .before .before .before .before .before .before .before .before .before .before .pre in plainly (rowsOf (a .table .now)) (r .0 .passes) start option (a .octets .now) 384 (omega (arith, r .1, r .2)) (a .n) (r .1) (a .rows .now) _ (rw (c .before .before .before .before .before .if1 .taken) at (c .before .before .before .before .before .before .before .plain-pass .ensures start option)) (c .before .before .copy-rows .ensures)
+returns c start option = let a = c .before .before .before .before .before .before .before .before .before .before .before .before .args in let r = c .before .before .before .before .before .before .before .before .before .before .before .before .pre in plainly (rowsOf (a .table .now)) (r .0 .passes) start option (a .octets .now) 512 (omega (arith, r .1, r .2)) (a .n) (r .1) (a .rows .now) _ (rw (c .before .before .before .before .before .if1 .taken) at (c .before .before .before .before .before .before .before .plain-pass .ensures start option)) (c .before .before .copy-rows .ensures)
 
 returns-2 : tie.Need-returns-2
-returns-2 c start option = let a = c .before .before .before .before .before .before .before .args in let r = c .before .before .before .before .before .before .before .pre in not-plainly (rowsOf (a .table .now)) (r .0 .passes) start option (a .octets .now) 384 (omega (arith, r .1, r .2)) (a .rows .now) (rw (c .if1 .left) at (c .before .before .plain-pass .ensures start option))
+returns-2 c start option = let a = c .before .before .before .before .before .before .before .args in let r = c .before .before .before .before .before .before .before .pre in not-plainly (rowsOf (a .table .now)) (r .0 .passes) start option (a .octets .now) 512 (omega (arith, r .1, r .2)) (a .rows .now) (rw (c .if1 .left) at (c .before .before .plain-pass .ensures start option))
 
 pub plain-many-spec : {M : Type 1} → statement M
 plain-many-spec =

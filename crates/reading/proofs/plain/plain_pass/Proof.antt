@@ -131,7 +131,7 @@ loop-less : tie.Need-loop-less Inv-loop μ-loop
 loop-less c = let f = turn (c .before .before .before .before .before .before) 0 false in omega (arith, f .ends, f .some-octet)
 
 loop-again : tie.Need-loop-again Inv-loop μ-loop
-loop-again c = let f = turn (c .before .before .before .before .before .before) 0 false in (ap length (c .before .before .set-row .ensures) ∙ length-overAt _ _ _ (omega (arith, f .listed, c .before .before .before .before .before .before .before .before .before .before .before .before .before .before .before .before .before .before .before .before .before .before .before .pre .room, c .before .before .before .before .before .before .before .before .before .before .before .before .before .before .before .before .before .before .before .loop .inv .0)) ∙ c .before .before .before .before .before .before .before .before .before .before .before .before .before .before .before .before .before .before .before .loop .inv .0, λ start option. turn (c .before .before .before .before .before .before) start option .then _ (rw (← headed (c .before .before .before .before)) (c .before .before .set-row .ensures)))
+loop-again c = let f = turn (c .before .before .before .before .before .before) 0 false in (ap length (c .before .before .set-row .ensures) ∙ length-overAt _ _ _ (omega (arith, f .listed, c .before .before .before .before .before .before .before .before .before .before .before .before .before .before .before .before .before .before .before .before .before .before .before .pre .room, c .before .before .before .before .before .before .before .before .before .before .before .before .before .before .before .before .before .before .before .loop .inv .0)) ∙ c .before .before .before .before .before .before .before .before .before .before .before .before .before .before .before .before .before .before .before .loop .inv .0, λ start option. turn (c .before .before .before .before .before .before) start option .then _ (rw (← headed (c .before .before .before .before), ← first-is (c .before .before .before .before .before .before .before .before .before .before .before .before)) (c .before .before .set-row .ensures)))
 
 same-length-5 : tie.Need-same-length-5 Inv-loop μ-loop
 same-length-5 c = c .before .loop .inv .0

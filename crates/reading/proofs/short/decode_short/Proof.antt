@@ -31,8 +31,8 @@ enum-known-k : tie.Need-enum-known-k
 enum-known-k c = search needs
 
 -- what was entered
-read : (c : tie.After-known-told2) → let a = c .before .before .before .before .before .before .before .before .before .before .before .before .before .before .before .args in Entered (rowsOf (a .table .now)) (parted (rowsOf (a .table .now)) (a .tlve-start) (a .option) (a .octets .now)) (c .before .k .given .0 .0) (c .before .k .given .0 .1 .0) (replicate 120 0) (replicate 1024 0) (replicate 1024 0) (c .before .before .before .before .before .before .fill-elements .last .1 .1 .1 .1 .1 .0) (c .before .before .before .before .before .before .fill-elements .last .1 .1 .1 .1 .1 .1 .0) (c .before .before .before .before .before .before .fill-elements .last .1 .1 .1 .1 .1 .1 .1 .0)
-read c = let a = c .before .before .before .before .before .before .before .before .before .before .before .before .before .before .before .args in entered (rowsOf (a .table .now)) (parted (rowsOf (a .table .now)) (a .tlve-start) (a .option) (a .octets .now)) (c .before .k .given .0 .0) (c .before .k .given .0 .1 .0) (replicate 120 0) (replicate 1024 0) (replicate 1024 0) (rw (c .before .k .given .1) at (c .before .before .before .before .before .before .fill-elements .ensures))
+read : (c : tie.After-known-told2) → let a = c .before .before .before .before .before .before .before .before .before .before .before .before .before .before .before .args in Entered (rowsOf (a .table .now)) (parted (rowsOf (a .table .now)) (a .tlve-start) (a .option) (a .octets .now)) (c .before .k .given .0 .0) (c .before .k .given .0 .1 .0) (replicate 160 0) (replicate 1024 0) (replicate 1024 0) (c .before .before .before .before .before .before .fill-elements .last .1 .1 .1 .1 .1 .0) (c .before .before .before .before .before .before .fill-elements .last .1 .1 .1 .1 .1 .1 .0) (c .before .before .before .before .before .before .fill-elements .last .1 .1 .1 .1 .1 .1 .1 .0)
+read c = let a = c .before .before .before .before .before .before .before .before .before .before .before .before .before .before .before .args in entered (rowsOf (a .table .now)) (parted (rowsOf (a .table .now)) (a .tlve-start) (a .option) (a .octets .now)) (c .before .k .given .0 .0) (c .before .k .given .0 .1 .0) (replicate 160 0) (replicate 1024 0) (replicate 1024 0) (rw (c .before .k .given .1) at (c .before .before .before .before .before .before .fill-elements .ensures))
 
 returns : tie.Need-returns
 returns c = let a = c .before .before .before .before .before .before .before .before .before .before .before .before .before .before .before .before .args in let f = c .before .before .before .before .before .before .before .before .before .before .before .before .before .before .before .before .pre in no-kept (a .table .now) (a .tlve-start) (a .option) (a .octets .now) (a .rows .now) (a .kept .now) (a .order .now) (f .0 .passes) (f .0 .short) (f .0 .room) (c .before .before .k .given .0 .0) (c .before .before .k .given .0 .1 .0) (needed-by (f .1) (read (c .before))) (omega arith)
@@ -59,7 +59,7 @@ copy-octets-requires-2 : tie.Need-copy-octets-requires-2
 copy-octets-requires-2 c κs = let e = read (c .before .before .before .before .before .before .before .before .before .before .before .before .before .before) in (omega arith, used-within _ _ (e .order-used) (e .order-is))
 
 returns-3 : tie.Need-returns-3
-returns-3 c = let a = c .before .before .before .before .before .before .before .before .before .before .before .before .before .before .before .args in let f = c .before .before .before .before .before .before .before .before .before .before .before .before .before .before .before .pre in cut-short (a .table .now) (a .tlve-start) (a .option) (a .octets .now) (a .rows .now) (a .kept .now) (a .order .now) (f .0 .passes) (f .0 .short) (f .0 .room) (cut-of (rowsOf (a .table .now)) (parted (rowsOf (a .table .now)) (a .tlve-start) (a .option) (a .octets .now)) 0 0 (replicate 120 0) (replicate 1024 0) (replicate 1024 0) (rw (c .before .start .given .1) at (c .before .before .before .before .before .before .fill-elements .ensures)))
+returns-3 c = let a = c .before .before .before .before .before .before .before .before .before .before .before .before .before .before .before .args in let f = c .before .before .before .before .before .before .before .before .before .before .before .before .before .before .before .pre in cut-short (a .table .now) (a .tlve-start) (a .option) (a .octets .now) (a .rows .now) (a .kept .now) (a .order .now) (f .0 .passes) (f .0 .short) (f .0 .room) (cut-of (rowsOf (a .table .now)) (parted (rowsOf (a .table .now)) (a .tlve-start) (a .option) (a .octets .now)) 0 0 (replicate 160 0) (replicate 1024 0) (replicate 1024 0) (rw (c .before .start .given .1) at (c .before .before .before .before .before .before .fill-elements .ensures)))
 
 same-length : tie.Need-same-length
 same-length c = search needs
@@ -75,7 +75,7 @@ returns-4 c =
     let a = c .before .before .before .before .before .before .before .before .before .before .before .before .before .before .before .before .before .before .before .before .before .before .before .before .before .before .before .before .before .before .before .before .args in
     let f = c .before .before .before .before .before .before .before .before .before .before .before .before .before .before .before .before .before .before .before .before .before .before .before .before .before .before .before .before .before .before .before .before .pre in
     done (a .table .now) (a .tlve-start) (a .option) (a .octets .now) (a .rows .now) (a .kept .now) (a .order .now) (f .0 .passes) (f .0 .short) (f .0 .room) (c .before .before .before .before .before .before .before .before .before .before .before .before .before .before .before .before .before .before .k .given .0 .0) (c .before .before .before .before .before .before .before .before .before .before .before .before .before .before .before .before .before .before .k .given .0 .1 .0) (needed-by (f .1) (read (c .before .before .before .before .before .before .before .before .before .before .before .before .before .before .before .before .before))) (omega arith) (omega arith)
-    (written (rowsOf (a .table .now)) (f .0 .passes) (a .tlve-start) (a .option) (a .octets .now) 120 (omega (arith, f .2, f .3)) (a .n) (f .2) (read (c .before .before .before .before .before .before .before .before .before .before .before .before .before .before .before .before .before)) (c .before .before .before .before .before .before .before .before .before .before .before .before .copy-rows .ensures) (c .before .before .before .before .before .before .before .copy-octets .ensures) (c .before .before .copy-octets2 .ensures))
+    (written (rowsOf (a .table .now)) (f .0 .passes) (a .tlve-start) (a .option) (a .octets .now) 160 (omega (arith, f .2, f .3)) (a .n) (f .2) (read (c .before .before .before .before .before .before .before .before .before .before .before .before .before .before .before .before .before)) (c .before .before .before .before .before .before .before .before .before .before .before .before .copy-rows .ensures) (c .before .before .before .before .before .before .before .copy-octets .ensures) (c .before .before .copy-octets2 .ensures))
 
 pub decode-short-spec : {M : Type 1} → statement M
 decode-short-spec =

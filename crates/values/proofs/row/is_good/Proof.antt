@@ -10,13 +10,16 @@ use Rattle.values.proofs.row.is_good.Statement.{statement}
 use Rattle.values.proofs.row.is_good.Tie as tie
 
 returns : tie.Need-returns
-returns c = sym (good-over (sourcesOf (c .before .before .before .before .args .received .now) (c .before .before .before .before .args .set .now)) (valueOf (c .before .before .before .before .args .row)) (omega arith))
+returns c = let a = c .before .before .before .before .args in sym (good-over (sourcesOf (a .received .now) (a .set .now)) (valueOf (a .row)) (omega arith))
 
 returns-2 : tie.Need-returns-2
-returns-2 c = rw (good-absent (sourcesOf (c .before .before .before .before .before .before .before .before .before .args .received .now) (c .before .before .before .before .before .before .before .before .before .args .set .now)) (valueOf (c .before .before .before .before .before .before .before .before .before .args .row)) (omega arith), eq-eqb (c .before .before .before .before .before .before .before .before .before .args .row .start) 0 (omega arith))
+returns-2 c = let a = c .before .before .before .before .before .before .before .before .before .before .before .args in rw (good-absent (sourcesOf (a .received .now) (a .set .now)) (valueOf (a .row)) (omega arith), eq-eqb (a .row .start) 0 (omega arith), eq-eqb (a .row .len) 0 (omega arith))
 
 returns-3 : tie.Need-returns-3
-returns-3 c = rw (good-absent (sourcesOf (c .before .before .before .before .before .before .before .before .args .received .now) (c .before .before .before .before .before .before .before .before .args .set .now)) (valueOf (c .before .before .before .before .before .before .before .before .args .row)) (omega arith), ne-eqb (c .before .before .before .before .before .before .before .before .args .row .start) 0 (c .if3 .left))
+returns-3 c = let a = c .before .before .before .before .before .before .before .before .before .before .args in rw (good-absent (sourcesOf (a .received .now) (a .set .now)) (valueOf (a .row)) (omega arith), eq-eqb (a .row .start) 0 (omega arith), ne-eqb (a .row .len) 0 (c .if4 .left))
+
+returns-4 : tie.Need-returns-4
+returns-4 c = let a = c .before .before .before .before .before .before .before .before .args in rw (good-absent (sourcesOf (a .received .now) (a .set .now)) (valueOf (a .row)) (omega arith), ne-eqb (a .row .start) 0 (c .if3 .left))
 
 wide-requires : tie.Need-wide-requires
 wide-requires c κs = search needs
@@ -27,11 +30,11 @@ wide-requires-2 c κs = search needs
 add-end : tie.Need-add-end
 add-end c = search needs
 
-returns-4 : tie.Need-returns-4
-returns-4 c = rw (c .before .before .before .wide .ensures .0, c .before .before .wide2 .ensures .0) (sym (good-received (sourcesOf (c .before .before .before .before .before .before .before .before .before .before .args .received .now) (c .before .before .before .before .before .before .before .before .before .before .args .set .now)) (valueOf (c .before .before .before .before .before .before .before .before .before .before .args .row)) (omega arith)))
-
 returns-5 : tie.Need-returns-5
-returns-5 c = rw (c .before .before .before .wide .ensures .0, c .before .before .wide2 .ensures .0) (sym (good-set (sourcesOf (c .before .before .before .before .before .before .before .before .before .before .args .received .now) (c .before .before .before .before .before .before .before .before .before .before .args .set .now)) (valueOf (c .before .before .before .before .before .before .before .before .before .before .args .row)) (omega arith)))
+returns-5 c = let a = c .before .before .before .before .before .before .before .before .before .before .args in rw (c .before .before .before .wide .ensures .0, c .before .before .wide2 .ensures .0) (sym (good-received (sourcesOf (a .received .now) (a .set .now)) (valueOf (a .row)) (omega arith)))
+
+returns-6 : tie.Need-returns-6
+returns-6 c = let a = c .before .before .before .before .before .before .before .before .before .before .args in rw (c .before .before .before .wide .ensures .0, c .before .before .wide2 .ensures .0) (sym (good-set (sourcesOf (a .received .now) (a .set .now)) (valueOf (a .row)) (omega arith)))
 
 pub is-good-spec : {M : Type 1} → statement M
 is-good-spec =
@@ -40,8 +43,9 @@ is-good-spec =
     returns
     returns-2
     returns-3
+    returns-4
     wide-requires
     wide-requires-2
     add-end
-    returns-4
-    returns-5)
+    returns-5
+    returns-6)

@@ -25,9 +25,7 @@ found : (c : tie.After-place-of) → placeAs (c .place-of .result) ≡ placeOf (
 found c = c .place-of .ensures ∙ place-found (c .before .before .before .before .before .before .before .before .before .before .args .table .now) (c .before .before .before .before .before .before .before .before .before .before .args .index .now) (c .before .before .entry .given .0 .0) (c .before .before .before .before .before .before .before .before .before .before .pre .0 .passes) (c .before .before .before .before .before .before .before .before .before .before .pre .0 .indexed) (omega (arith, c .before .known-told .given))
 
 low : (c : tie.After-k) → c .k .given .0 .0 < 128
-low c =
-    let l = place-low (rowsOf (c .before .before .before .before .before .before .before .before .before .before .before .before .args .table .now)) (c .before .before .before .before .entry .given .0 .0) (c .k .given .0 .0) (c .before .before .before .before .before .before .before .before .before .before .before .before .pre .0 .passes) (sym (found (c .before .before)) ∙ ap placeAs (c .k .given .1)) in
-    omega arith
+low c = let l = place-low (rowsOf (c .before .before .before .before .before .before .before .before .before .before .before .before .args .table .now)) (c .before .before .before .before .entry .given .0 .0) (c .k .given .0 .0) (c .before .before .before .before .before .before .before .before .before .before .before .before .pre .0 .passes) (sym (found (c .before .before)) ∙ ap placeAs (c .k .given .1)) in omega arith
 
 place-len-requires : tie.Need-place-len-requires
 place-len-requires c κs = (c .before .before .before .before .before .before .before .before .before .before .before .before .before .pre .0 .passes, c .before .before .before .before .before .before .before .before .before .before .before .before .before .pre .0 .received-short, c .before .before .before .before .before .before .before .before .before .before .before .before .before .pre .0 .set-short)
@@ -60,19 +58,4 @@ returns-4 : tie.Need-returns-4
 returns-4 c = rw (c .enum-told3 .given .1) (tallied-ignored (filledOf (c .before .before .before .before .before .before .before .before .args .table .now) (c .before .before .before .before .before .before .before .before .args .rows .now) (c .before .before .before .before .before .before .before .before .args .received .now) (c .before .before .before .before .before .before .before .before .args .set .now)) (c .before .before .before .before .before .before .before .before .args .t) _)
 
 pub with-entry-spec : {M : Type 1} → statement M
-with-entry-spec =
-    tie.close
-    (tie.spec
-    enum-known-entry
-    place-of-requires
-    enum-known-k
-    place-len-requires
-    add-t15
-    seen-with-requires
-    enum-told
-    enum-told-2
-    enum-told-3
-    returns
-    returns-2
-    returns-3
-    returns-4)
+with-entry-spec = tie.close (tie.spec enum-known-entry place-of-requires enum-known-k place-len-requires add-t15 seen-with-requires enum-told enum-told-2 enum-told-3 returns returns-2 returns-3 returns-4)
