@@ -74,6 +74,10 @@ joined {d} {k} {a} {d₁} {k₁} {b} {d₂} {k₂} p q =
 pub at-text : {d : List ℕ} {k : ℕ} {s s′ d′ : List ℕ} {k′ : ℕ} → s ≡ s′ → Put d k s d′ k′ → Put d k s′ d′ k′
 at-text e p = rw (← e) p
 
+-- the same of an equal buffer
+pub at-buffer : {d d₀ : List ℕ} {k : ℕ} {s d′ : List ℕ} {k′ : ℕ} → d ≡ d₀ → Put d k s d′ k′ → Put d₀ k s d′ k′
+at-buffer e p = rw (← e) p
+
 -- the same length
 pub put-long : {d : List ℕ} {k : ℕ} {s d′ : List ℕ} {k′ : ℕ} → Put d k s d′ k′ → length d′ ≡ length d
 put-long {d} {k} {s} p = ap length (p .out) ∙ length-put k s d

@@ -1,18 +1,17 @@
--- The loops over the elements of a part under table P: what is left of the part gives what the whole part gives.
--- A step of the code is the definition's step, since table P passes its check and the part is within the limit.
+-- The loops over the elements of a part by a table: what is left of the part gives what the whole part gives.
+-- A step of the code is the definition's step, since the table passes its check and the part is within the limit.
 use Prim.Native.Nat.{ℕ, _+_, _*_, _≤_, _<_}
 use native.Mathlib.Omega.{arith}
 use mathlib.Core.Path.{_≡_, refl, ap, sym, _∙_}
 use mathlib.Core.List.{List, [], _∷_, _++_}
-use mathlib.Core.Bool.{true, false}
-use mathlib.Core.Option.{none}
+use mathlib.Core.Bool.{Bool, true, false}
+use mathlib.Core.Option.{Option, none, some}
 use lib.ListN.{length}
 use borrow.Author.Tests.{lt-ltb, le-ltb}
 use Rattle.definitions.specs.Rows.{rowsOf, firstBad}
-use Rattle.definitions.specs.Tables.{tableP, tableOf, startOf}
+use Rattle.definitions.specs.Tables.{tableOf, startOf}
 use Rattle.definitions.specs.Elements.{Element as DefElement, Parted, elements, cutShort, elementsOf, before}
-use Rattle.definitions.specs.Listing.{ascii, heading, newline, lines, listed, listing}
-use Rattle.real.proofs.RealLaws.{real}
+use Rattle.definitions.specs.Listing.{ascii, heading, newline, lines, listed, listingBy}
 use Rattle.elements.specs.Nexts.{startState, nextAs, nextFrom, nextOf}
 use Rattle.elements.specs.declared.element.State.{State}
 use Rattle.elements.specs.declared.element.Element.{Element}
@@ -21,7 +20,7 @@ use Rattle.elements.specs.declared.next.NextElement.{NextElement}
 use Rattle.elements.proofs.Nexts.{from, Nexts, from-start}
 use Rattle.listing.specs.Puts.{Put}
 use Rattle.listing.specs.Lines.{lineOf}
-use Rattle.listing.specs.Parts.{stepAt, partedP, wholeOf, isCut, isRefused}
+use Rattle.listing.specs.Parts.{Passing, stepAt, partedBy, wholeOf, listingOf, isCut, isRefused, isRefusedOf}
 use Rattle.listing.specs.declared.Whole.{Whole}
 use Rattle.listing.proofs.Puts.{joined, at-text, put-none, put-long}
 use Rattle.listing.proofs.Lines.{line-is, line-short}
@@ -40,26 +39,53 @@ back-as (Step.Next e v) = refl
 back-as (Step.Cut a x n m) = refl
 back-as Step.End = refl
 
-p-passes : firstBad (rowsOf tableP) ≡ none
-unfolding tableOf
-p-passes = real 0 .passes
+module _ (table : List ℕ) (option : Bool) where
+  next-read : (part : List ℕ) (s : State) → Passing table part → nextOf (rowsOf table) startOf option part s ≡ nextAs (stepAt table option part s)
+  unfolding nextOf nextFrom
+  next-read part s h = rw (h .passes, le-ltb 65535 (length part) (omega (arith, h .short)))
 
-next-read : (part : List ℕ) (s : State) → length part ≤ 4096 → nextOf (rowsOf tableP) startOf false part s ≡ nextAs (stepAt part s)
-unfolding nextOf nextFrom
-next-read part s h = rw (p-passes, le-ltb 65535 (length part) (omega arith))
+  pub stepped : (part : List ℕ) (s : State) → Passing table part → {n : NextElement} → n ≡ nextOf (rowsOf table) startOf option part s → back n ≡ stepAt table option part s
+  stepped part s h e = ap back (e ∙ next-read part s h) ∙ back-as (stepAt table option part s)
 
-pub stepped : (part : List ℕ) (s : State) → length part ≤ 4096 → {n : NextElement} → n ≡ nextOf (rowsOf tableP) startOf false part s → back n ≡ stepAt part s
-stepped part s h e = ap back (e ∙ next-read part s h) ∙ back-as (stepAt part s)
+-- ---- by table number
 
-module _ (part : List ℕ) where
+pub listing-of : (number : ℕ) (option : Bool) (part : List ℕ) {o : Option (List ℕ)} → tableOf number ≡ o
+    → listingOf number option part ≡ elim o [ none ↦ [] | some table ↦ listingBy table option part ]
+unfolding listingOf
+listing-of number option part e = ap (λ (o : Option (List ℕ)). elim o [ none ↦ [] | some table ↦ listingBy table option part ]) e
+
+pub refused-of : (number : ℕ) (option : Bool) (part : List ℕ) {o : Option (List ℕ)} → tableOf number ≡ o
+    → isRefusedOf number option part ≡ elim o [ none ↦ true | some table ↦ isRefused table option part ]
+unfolding isRefusedOf
+refused-of number option part e = ap (λ (o : Option (List ℕ)). elim o [ none ↦ true | some table ↦ isRefused table option part ]) e
+
+-- ---- a part that is read whole
+
+pub whole-elements : (p : Parted) → wholeOf p ≡ Whole.Elements → p ≡ elements (elementsOf p)
+unfolding elementsOf
+whole-elements (elements es) h = refl
+whole-elements (cutShort a x n m) h = let z : _≡_ {A = ℕ} 0 1 = cc in absurd (omega arith)
+
+pub none-left : {p : Parted} {rest : List DefElement} → p ≡ elements rest → p ≡ elements [] → rest ≡ []
+none-left {rest = rest} r e =
+    let f : elements rest ≡ elements [] = sym r ∙ e in
+    cc
+
+pub never-cut : {p : Parted} {rest : List DefElement} {a x m k : ℕ} → p ≡ elements rest → p ≡ cutShort a x m k → ⊥
+never-cut {rest = rest} r e =
+    let f : elements rest ≡ cutShort _ _ _ _ = sym r ∙ e in
+    let z : _≡_ {A = ℕ} 0 1 = cc in
+    omega arith
+
+module _ (table : List ℕ) (option : Bool) (part : List ℕ) where
   abbrev pub left : State → Parted
-  left s = from (rowsOf tableP) startOf false part s
+  left s = from (rowsOf table) startOf option part s
 
   abbrev pub Found : State → Element → State → Type 0
-  Found s e v = Nexts (rowsOf tableP) startOf false part s e v
+  Found s e v = Nexts (rowsOf table) startOf option part s e v
 
-  left-start : left startState ≡ partedP part
-  left-start = from-start (rowsOf tableP) startOf false part
+  pub left-start : left startState ≡ partedBy table option part
+  left-start = from-start (rowsOf table) startOf option part
 
   -- ---- whether it is cut short
 
@@ -70,7 +96,7 @@ module _ (part : List ℕ) where
 
   pub record Seeking (s : State) : Type 0 where
     pub within : s .at ≤ length part
-    pub tells : wholeOf (left s) ≡ wholeOf (partedP part)
+    pub tells : wholeOf (left s) ≡ wholeOf (partedBy table option part)
 
   pub sought-start : (s : State) → s ≡ startState → Seeking s
   sought-start s e = rw e (record { within = omega arith; tells = ap wholeOf left-start })
@@ -82,11 +108,30 @@ module _ (part : List ℕ) where
         tells = sym (ap wholeOf (n .parts) ∙ whole-before (n .element) (left v)) ∙ i .tells;
       }
 
+  -- what is left behind an element of a part that is read whole
+  pub record Behind (d : DefElement) (v : State) (rest : List DefElement) : Type 0 where
+    pub more : List DefElement
+    pub reads : left v ≡ elements more
+    pub is : d ∷ more ≡ rest
+
+  pub behind : {s v : State} {e : Element} {rest : List DefElement} → left s ≡ elements rest → (n : Found s e v) → Behind (n .element) v rest
+  unfolding before
+  behind {v = v} {rest = rest} r n = by (left v) refl
+    where
+      by : (q : Parted) → left v ≡ q → Behind (n .element) v rest
+      by (elements es) q =
+          let f : elements (n .element ∷ es) ≡ elements rest = sym (n .parts ∙ ap (before (n .element)) q) ∙ r in
+          record { more = es; reads = q; is = cc }
+      by (cutShort a x m k) q =
+          let f : cutShort a x m k ≡ elements rest = sym (n .parts ∙ ap (before (n .element)) q) ∙ r in
+          let z : _≡_ {A = ℕ} 0 1 = cc in
+          absurd (omega arith)
+
   -- ---- the lines
 
   module _ (out₀ : List ℕ) (first : ℕ) where
     abbrev all : List ℕ
-    all = lines (elementsOf (partedP part))
+    all = lines (elementsOf (partedBy table option part))
 
     pub record Writing (s : State) (out : List ℕ) (used : ℕ) : Type 0 where
       pub rest : List DefElement
@@ -96,16 +141,11 @@ module _ (part : List ℕ) where
       pub bound : used ≤ first + 25 * s .at
       pub ends : (d : List ℕ) (k : ℕ) → Put out used (lines rest) d k → Put out₀ first all d k
 
-    whole-elements : (p : Parted) → wholeOf p ≡ Whole.Elements → p ≡ elements (elementsOf p)
-    unfolding elementsOf
-    whole-elements (elements es) h = refl
-    whole-elements (cutShort a x n m) h = let z : _≡_ {A = ℕ} 0 1 = cc in absurd (omega arith)
-
-    pub written-start : (s : State) → s ≡ startState → wholeOf (partedP part) ≡ Whole.Elements → Writing s out₀ first
+    pub written-start : (s : State) → s ≡ startState → wholeOf (partedBy table option part) ≡ Whole.Elements → Writing s out₀ first
     written-start s e h =
         rw e (record {
-          rest = elementsOf (partedP part);
-          reads = left-start ∙ whole-elements (partedP part) h;
+          rest = elementsOf (partedBy table option part);
+          reads = left-start ∙ whole-elements (partedBy table option part) h;
           within = omega arith;
           long = refl;
           bound = omega arith;
@@ -114,56 +154,39 @@ module _ (part : List ℕ) where
 
     module _ (s v : State) (e : Element) (out : List ℕ) (used : ℕ) (out′ : List ℕ) (used′ : ℕ) (i : Writing s out used) (n : Found s e v) (p : Put out used (lineOf e) out′ used′) where
       pub written : Writing v out′ used′
-      unfolding before lines
-      written = by (left v) refl
-        where
-          by : (q : Parted) → left v ≡ q → Writing v out′ used′
-          by (elements es) q =
-              let f : elements (n .element ∷ es) ≡ elements (i .rest) = sym (n .parts ∙ ap (before (n .element)) q) ∙ i .reads in
-              let l : n .element ∷ es ≡ i .rest = cc in
-              let g : lineOf e ++ lines es ≡ lines (i .rest) =
-              ap (λ (x : List ℕ). x ++ lines es) (ap lineOf (n .is) ∙ line-is (n .element)) ∙ ap lines l in
-              record {
-                rest = es;
-                reads = q;
-                within = omega (arith, n .further, n .within);
-                long = put-long p ∙ i .long;
-                bound = omega (arith, i .bound, p .used, line-short e, n .further, n .some-octet);
-                ends = λ d k r. i .ends d k (at-text g (joined p r));
-              }
-          by (cutShort a x m r) q =
-              let f : cutShort a x m r ≡ elements (i .rest) = sym (n .parts ∙ ap (before (n .element)) q) ∙ i .reads in
-              let z : _≡_ {A = ℕ} 0 1 = cc in
-              absurd (omega arith)
+      unfolding lines
+      written =
+          let b : Behind (n .element) v (i .rest) = behind (i .reads) n in
+          let g : lineOf e ++ lines (b .more) ≡ lines (i .rest) =
+          ap (λ (x : List ℕ). x ++ lines (b .more)) (ap lineOf (n .is) ∙ line-is (n .element)) ∙ ap lines (b .is) in
+          record {
+            rest = b .more;
+            reads = b .reads;
+            within = omega (arith, n .further, n .within);
+            long = put-long p ∙ i .long;
+            bound = omega (arith, i .bound, p .used, line-short e, n .further, n .some-octet);
+            ends = λ d k r. i .ends d k (at-text g (joined p r));
+          }
 
     pub written-all : {s : State} {out : List ℕ} {used : ℕ} → Writing s out used → left s ≡ elements [] → Put out₀ first all out used
     unfolding lines
-    written-all {out = out} {used = used} i e =
-        let f : elements (i .rest) ≡ elements [] = sym (i .reads) ∙ e in
-        let l : i .rest ≡ [] = cc in
-        i .ends out used (at-text (ap lines (sym l)) (put-none out used))
-
-    pub never-cut : {s : State} {out : List ℕ} {used a x m r : ℕ} → Writing s out used → left s ≡ cutShort a x m r → ⊥
-    never-cut i e =
-        let f : elements (i .rest) ≡ cutShort _ _ _ _ = sym (i .reads) ∙ e in
-        let z : _≡_ {A = ℕ} 0 1 = cc in
-        omega arith
+    written-all {out = out} {used = used} i e = i .ends out used (at-text (ap lines (sym (none-left (i .reads) e))) (put-none out used))
 
   -- ---- the text
 
-  pub listing-long : 4096 < length part → heading ++ (ascii "too long" ++ newline) ≡ listing part
-  unfolding listing
+  pub listing-long : 4096 < length part → heading ++ (ascii "too long" ++ newline) ≡ listingBy table option part
+  unfolding listingBy
   listing-long l = rw (lt-ltb 4096 (length part) l)
 
-  listing-read : length part ≤ 4096 → heading ++ listed (length part) (partedP part) ≡ listing part
-  unfolding listing
+  listing-read : length part ≤ 4096 → heading ++ listed (length part) (partedBy table option part) ≡ listingBy table option part
+  unfolding listingBy
   listing-read l = rw (le-ltb 4096 (length part) l)
 
-  pub listing-cut : {a x k r : ℕ} → length part ≤ 4096 → wholeOf (partedP part) ≡ Whole.Cut a x k r → heading ++ listed 0 (cutShort a x k r) ≡ listing part
+  pub listing-cut : {a x k r : ℕ} → length part ≤ 4096 → wholeOf (partedBy table option part) ≡ Whole.Cut a x k r → heading ++ listed 0 (cutShort a x k r) ≡ listingBy table option part
   unfolding listed
-  listing-cut {a} {x} {k} {r} l h = by (partedP part) refl h
+  listing-cut {a} {x} {k} {r} l h = by (partedBy table option part) refl h
     where
-      by : (p : Parted) → partedP part ≡ p → wholeOf p ≡ Whole.Cut a x k r → heading ++ listed 0 (cutShort a x k r) ≡ listing part
+      by : (p : Parted) → partedBy table option part ≡ p → wholeOf p ≡ Whole.Cut a x k r → heading ++ listed 0 (cutShort a x k r) ≡ listingBy table option part
       by (elements es) e q = let z : _≡_ {A = ℕ} 0 1 = cc in absurd (omega arith)
       by (cutShort b y n s) e q =
           let i : a ≡ b = cc in
@@ -172,11 +195,11 @@ module _ (part : List ℕ) where
           let o : r ≡ s = cc in
           rw (i, j, m, o) (ap (λ (p : Parted). heading ++ listed (length part) p) (sym e) ∙ listing-read l)
 
-  pub listing-lines : length part ≤ 4096 → wholeOf (partedP part) ≡ Whole.Elements → heading ++ (lines (elementsOf (partedP part)) ++ listed (length part) (elements [])) ≡ listing part
+  pub listing-lines : length part ≤ 4096 → wholeOf (partedBy table option part) ≡ Whole.Elements → heading ++ (lines (elementsOf (partedBy table option part)) ++ listed (length part) (elements [])) ≡ listingBy table option part
   unfolding listed lines elementsOf
-  listing-lines l h = by (partedP part) refl h
+  listing-lines l h = by (partedBy table option part) refl h
     where
-      by : (p : Parted) → partedP part ≡ p → wholeOf p ≡ Whole.Elements → heading ++ (lines (elementsOf (partedP part)) ++ listed (length part) (elements [])) ≡ listing part
+      by : (p : Parted) → partedBy table option part ≡ p → wholeOf p ≡ Whole.Elements → heading ++ (lines (elementsOf (partedBy table option part)) ++ listed (length part) (elements [])) ≡ listingBy table option part
       by (elements es) e q =
           ap (λ (p : Parted). heading ++ (lines (elementsOf p) ++ listed (length part) (elements []))) e
           ∙ ap (λ (p : Parted). heading ++ listed (length part) p) (sym e)
@@ -185,8 +208,8 @@ module _ (part : List ℕ) where
 
   -- ---- whether it is refused
 
-  pub refused-long : 4096 < length part → true ≡ isRefused part
+  pub refused-long : 4096 < length part → true ≡ isRefused table option part
   refused-long l = rw (lt-ltb 4096 (length part) l)
 
-  pub refused-read : {w : Whole} → length part ≤ 4096 → w ≡ wholeOf (partedP part) → isCut w ≡ isRefused part
+  pub refused-read : {w : Whole} → length part ≤ 4096 → w ≡ wholeOf (partedBy table option part) → isCut w ≡ isRefused table option part
   refused-read l e = rw (le-ltb 4096 (length part) l) (ap isCut e)

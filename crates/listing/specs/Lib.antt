@@ -2,3 +2,5 @@
 pub mod Puts
 pub mod Lines
 pub mod Parts
+pub mod Grounds
+pub mod Verdicts

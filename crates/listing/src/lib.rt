@@ -1,5 +1,7 @@
-// What nas-list prints of a part, into a lent buffer: table P, the option off.
+// What nas-list prints of a part, into a lent buffer: by table number, with the option on or off.
+pub mod grounds;
 pub mod put;
+pub mod verdicts;
 
 use crate::put::put;
 use crate::put::put_cut;
@@ -10,21 +12,23 @@ use elements::element::Step;
 use elements::next::NextElement;
 use elements::next::next_element;
 use elements::next::start_state;
-use real::TABLE_P;
+use numbered::Loaded;
+use numbered::TLVE_START;
+use numbered::load;
 ghost use mathlib.Core.Path.{_≡_};
+ghost use mathlib.Core.Option.{none};
 ghost use Prim.Native.Nat.{_+_, _≤_};
 ghost use lib.ListN.{length};
 ghost use Rattle.definitions.specs.Elements.{elementsOf};
-ghost use Rattle.definitions.specs.Listing.{lines, listing};
+ghost use Rattle.definitions.specs.Rows.{rowsOf, firstBad};
+ghost use Rattle.definitions.specs.Listing.{lines, listingBy};
 ghost use Rattle.listing.specs.Puts.{Put};
-ghost use Rattle.listing.specs.Parts.{stepAt, partedP, wholeOf, listedAs, outAs, isRefused};
+ghost use Rattle.listing.specs.Parts.{Passing, stepAt, partedBy, wholeOf, listingOf, listedAs, outAs, isRefused, isRefusedOf};
 
-const MOST_LISTED: usize = 4096;
+pub(crate) const MOST_LISTED: usize = 4096;
 
 // No text is longer: the header, 4,096 lines of 25 octets, and the last line.
 pub const MOST_TEXT: usize = 102_429;
-
-const TLVE_START: u8 = 0x70;
 
 // The octets of the text: written, or needed where there is no room for them.
 pub enum Listed {
@@ -39,11 +43,11 @@ pub enum Whole {
 }
 
 // What stands at a state's position.
-fn step(octets: &[u8], state: State) -> Step
-    requires { ⌜ length (now octets) ≤ 4096 ⌝ }
-    ensures { λ r. ⌜ r ≡ stepAt (now (octets .entry)) state ⌝ }
+fn step(octets: &[u8], table: &[u32], option: bool, state: State) -> Step
+    requires { ⌜ Passing (now table) (now octets) ⌝ }
+    ensures { λ r. ⌜ r ≡ stepAt (now (table .entry)) option (now (octets .entry)) state ⌝ }
 {
-    match next_element(octets, &TABLE_P, TLVE_START, false, state) {
+    match next_element(octets, table, TLVE_START, option, state) {
         NextElement::Next(e, next) => Step::Next(e, next),
         NextElement::Cut(start, x, left, missing) => Step::Cut(start, x, left, missing),
         NextElement::End => Step::End,
@@ -52,13 +56,13 @@ fn step(octets: &[u8], state: State) -> Step
     }
 }
 
-fn read_whole(octets: &[u8]) -> Whole
-    requires { ⌜ length (now octets) ≤ 4096 ⌝ }
-    ensures { λ r. ⌜ r ≡ wholeOf (partedP (now (octets .entry))) ⌝ }
+fn read_whole(octets: &[u8], table: &[u32], option: bool) -> Whole
+    requires { ⌜ Passing (now table) (now octets) ⌝ }
+    ensures { λ r. ⌜ r ≡ wholeOf (partedBy (now (table .entry)) option (now (octets .entry))) ⌝ }
 {
     let mut state = start_state();
     loop {
-        match step(octets, state) {
+        match step(octets, table, option, state) {
             Step::Next(_, next) => {
                 state = next;
             }
@@ -73,14 +77,14 @@ fn read_whole(octets: &[u8]) -> Whole
 }
 
 // A line for each element of a part that is read whole.
-fn put_lines(octets: &[u8], out: &mut [u8], first: usize) -> usize
-    requires { ⌜ (length (now octets) ≤ 4096) × (first ≤ 32) × (wholeOf (partedP (now octets)) ≡ Whole.Elements) ⌝ }
-    ensures { λ r. ⌜ (Put (now (out .entry)) first (lines (elementsOf (partedP (now (octets .entry))))) (now (out .exit)) r) × (r ≤ first + 102400) ⌝ }
+fn put_lines(octets: &[u8], table: &[u32], option: bool, out: &mut [u8], first: usize) -> usize
+    requires { ⌜ Passing (now table) (now octets) × (first ≤ 32) × (wholeOf (partedBy (now table) option (now octets)) ≡ Whole.Elements) ⌝ }
+    ensures { λ r. ⌜ (Put (now (out .entry)) first (lines (elementsOf (partedBy (now (table .entry)) option (now (octets .entry))))) (now (out .exit)) r) × (r ≤ first + 102400) ⌝ }
 {
     let mut state = start_state();
     let mut used = first;
     loop {
-        match step(octets, state) {
+        match step(octets, table, option, state) {
             Step::Next(e, next) => {
                 used = put_line(out, used, e);
                 state = next;
@@ -96,46 +100,76 @@ fn put_lines(octets: &[u8], out: &mut [u8], first: usize) -> usize
 }
 
 // The whole text, as far as there is room, and its length.
-fn put_text(octets: &[u8], out: &mut [u8]) -> usize
-    ensures { λ r. ⌜ Put (now (out .entry)) 0 (listing (now (octets .entry))) (now (out .exit)) r × (r ≤ 102429) ⌝ }
+fn put_text(octets: &[u8], table: &[u32], option: bool, out: &mut [u8]) -> usize
+    requires { ⌜ firstBad (rowsOf (now table)) ≡ none ⌝ }
+    ensures { λ r. ⌜ Put (now (out .entry)) 0 (listingBy (now (table .entry)) option (now (octets .entry))) (now (out .exit)) r × (r ≤ 102429) ⌝ }
 {
     let used = put(out, 0, b"at len iei verdict\n");
     if octets.len() > MOST_LISTED {
         return put(out, used, b"too long\n");
     }
-    match read_whole(octets) {
+    match read_whole(octets, table, option) {
         Whole::Elements => {
-            let next = put_lines(octets, out, used);
+            let next = put_lines(octets, table, option, out, used);
             put_end(out, next, octets.len())
         }
         Whole::Cut(start, x, left, missing) => put_cut(out, used, start, x, left, missing),
     }
 }
 
-// The listing of a part into the front of a lent buffer. Where there is no room for all of it, nothing is written.
-pub fn list_part(octets: &[u8], out: &mut [u8]) -> Listed
-    ensures { λ r. ⌜ r ≡ listedAs (listing (now (octets .entry))) (now (out .entry)) ⌝ }
-    ensures { λ r. ⌜ now (out .exit) ≡ outAs (listing (now (octets .entry))) (now (out .entry)) ⌝ }
-    ensures { λ r. ⌜ length (listing (now (octets .entry))) ≤ 102429 ⌝ }
+// By a table that passes its check.
+fn list_by(octets: &[u8], table: &[u32], option: bool, out: &mut [u8]) -> Listed
+    requires { ⌜ firstBad (rowsOf (now table)) ≡ none ⌝ }
+    ensures { λ r. ⌜ r ≡ listedAs (listingBy (now (table .entry)) option (now (octets .entry))) (now (out .entry)) ⌝ }
+    ensures { λ r. ⌜ now (out .exit) ≡ outAs (listingBy (now (table .entry)) option (now (octets .entry))) (now (out .entry)) ⌝ }
+    ensures { λ r. ⌜ length (listingBy (now (table .entry)) option (now (octets .entry))) ≤ 102429 ⌝ }
 {
     let mut none = [0u8; 1];
-    let n = put_text(octets, &mut none);
+    let n = put_text(octets, table, option, &mut none);
     if n > out.len() {
         return Listed::NoRoom(n);
     }
-    put_text(octets, out);
+    put_text(octets, table, option, out);
     Listed::Written(n)
 }
 
-// Whether a part is refused, so that its listing is the header and one line: it is too long, or cut short.
-pub fn is_refused(octets: &[u8]) -> bool
-    ensures { λ r. ⌜ r ≡ isRefused (now (octets .entry)) ⌝ }
+// The listing of a part, by table number, into the front of a lent buffer. Where there is no room for all of it, nothing is written.
+// A number that names no table has an empty listing.
+pub fn list_part(number: u32, octets: &[u8], out_of_sequence: bool, out: &mut [u8]) -> Listed
+    ensures { λ r. ⌜ r ≡ listedAs (listingOf number «out_of_sequence» (now (octets .entry))) (now (out .entry)) ⌝ }
+    ensures { λ r. ⌜ now (out .exit) ≡ outAs (listingOf number «out_of_sequence» (now (octets .entry))) (now (out .entry)) ⌝ }
+    ensures { λ r. ⌜ length (listingOf number «out_of_sequence» (now (octets .entry))) ≤ 102429 ⌝ }
+{
+    let mut table = [0u32; 400];
+    let mut index = [255u8; 256];
+    match load(number, &mut table, &mut index) {
+        Loaded::Table(n) => list_by(octets, &table[..n], out_of_sequence, out),
+        Loaded::NoTable => Listed::Written(0),
+    }
+}
+
+fn is_refused_by(octets: &[u8], table: &[u32], option: bool) -> bool
+    requires { ⌜ firstBad (rowsOf (now table)) ≡ none ⌝ }
+    ensures { λ r. ⌜ r ≡ isRefused (now (table .entry)) option (now (octets .entry)) ⌝ }
 {
     if octets.len() > MOST_LISTED {
         return true;
     }
-    match read_whole(octets) {
+    match read_whole(octets, table, option) {
         Whole::Elements => false,
         Whole::Cut(_, _, _, _) => true,
+    }
+}
+
+// Whether a part is refused, so that its listing is the header and one line: it is too long, or cut short. Where no table has the
+// number, every part is.
+pub fn is_refused(number: u32, octets: &[u8], out_of_sequence: bool) -> bool
+    ensures { λ r. ⌜ r ≡ isRefusedOf number «out_of_sequence» (now (octets .entry)) ⌝ }
+{
+    let mut table = [0u32; 400];
+    let mut index = [255u8; 256];
+    match load(number, &mut table, &mut index) {
+        Loaded::Table(n) => is_refused_by(octets, &table[..n], out_of_sequence),
+        Loaded::NoTable => true,
     }
 }

@@ -24,7 +24,7 @@ pub(crate) fn put(out: &mut [u8], used: usize, text: &[u8]) -> usize
     used + text.len()
 }
 
-fn put_octet(out: &mut [u8], used: usize, x: u8) -> usize
+pub(crate) fn put_octet(out: &mut [u8], used: usize, x: u8) -> usize
     requires { ⌜ used < 2 ^ 31 ⌝ }
     ensures { λ r. ⌜ Put (now (out .entry)) used (x ∷ []) (now (out .exit)) r ⌝ }
 {
@@ -47,7 +47,7 @@ fn put_digits(out: &mut [u8], used: usize, n: usize, most: usize) -> usize
     put_octet(out, next, 48 + ((n % 10) as u8))
 }
 
-fn put_decimal(out: &mut [u8], used: usize, n: usize) -> usize
+pub(crate) fn put_decimal(out: &mut [u8], used: usize, n: usize) -> usize
     requires { ⌜ used + 5 < 2 ^ 31 ⌝ }
     ensures { λ r. ⌜ Put (now (out .entry)) used (decimal n) (now (out .exit)) r ⌝ }
 {

@@ -1,33 +1,46 @@
--- `list_part` puts the text twice: into no room, for its length, and into the lent buffer where there is room for all of it.
--- Each way out has the test of the room.
-use mathlib.Core.Path.{_≡_, ap}
+-- `list_part` goes by the table that the number names.
+-- One that is loaded is the definitions', and passes; where none is, the definition says what is answered.
+use mathlib.Core.Path.{refl, ap, sym, _∙_}
 use native.Mathlib.Omega.{arith}
 use lib.ListN.{length}
-use borrow.Author.Tests.{le-leb, lt-leb}
-use Rattle.definitions.specs.Listing.{listing}
-use Rattle.listing.specs.declared.Listed.{Listed}
-use Rattle.listing.proofs.Puts.{put-whole}
+use lib.Seq.{length-take-le}
+use borrow.Author.Tests.{le-leb}
+use Rattle.definitions.specs.Basic.{over}
+use Rattle.listing.proofs.Reading.{listing-of}
+use Rattle.numbered.proofs.Loading.{is-loaded, none-loaded}
 use borrow.Author.Needs.{needs}
 use Rattle.listing.proofs.list_part.Statement.{statement}
 use Rattle.listing.proofs.list_part.Tie as tie
 
-slice-aggregate-put-text : tie.Need-slice-aggregate-put-text
-slice-aggregate-put-text c = search needs
+load-requires : tie.Need-load-requires
+load-requires c κs = search needs
 
-put-text-requires : tie.Need-put-text-requires
-put-text-requires c κs = search needs
+enum-known-n : tie.Need-enum-known-n
+enum-known-n c = search needs
 
-returns : tie.Need-returns
-returns c = let u : c .before .before .put-text .result ≡ length (listing (c .before .before .before .before .before .before .args .octets .now)) = omega (arith, c .before .before .put-text .ensures .0 .used) in (rw (lt-leb (length (listing (c .before .before .before .before .before .before .args .octets .now))) (length (c .before .before .before .before .before .before .args .out .now)) (omega arith)) (ap Listed.NoRoom u), (rw (lt-leb (length (listing (c .before .before .before .before .before .before .args .octets .now))) (length (c .before .before .before .before .before .before .args .out .now)) (omega arith)), omega (arith, c .before .before .put-text .ensures .1)))
+array-share-prefix-table : tie.Need-array-share-prefix-table
+array-share-prefix-table c = (is-loaded (rw (c .before .n .given .1) at (c .before .before .before .load .ensures))) .within
 
-put-text-requires-2 : tie.Need-put-text-requires-2
-put-text-requires-2 c κs = search needs
+slice-aggregate-list-by : tie.Need-slice-aggregate-list-by
+slice-aggregate-list-by c = sym (length-take-le _ _ ((is-loaded (rw (c .before .before .n .given .1) at (c .before .before .before .before .load .ensures))) .within))
+
+list-by-requires : tie.Need-list-by-requires
+list-by-requires c κs = (is-loaded (rw (c .before .before .before .n .given .1) at (c .before .before .before .before .before .load .ensures))) .passes
+
+enum-told : tie.Need-enum-told
+enum-told c = search needs
 
 same-length : tie.Need-same-length
 same-length c = search needs
 
+returns : tie.Need-returns
+returns c =
+    let l = is-loaded (rw (c .before .before .before .before .before .before .n .given .1) at (c .before .before .before .before .before .before .before .before .load .ensures)) in
+    rw (listing-of (c .before .before .before .before .before .before .before .before .before .before .before .before .before .args .number) (c .before .before .before .before .before .before .before .before .before .before .before .before .before .args .out-of-sequence) (c .before .before .before .before .before .before .before .before .before .before .before .before .before .args .octets .now) (l .is)) (c .before .before .list-by .ensures)
+
 returns-2 : tie.Need-returns-2
-returns-2 c = let u : c .before .before .before .before .before .before .put-text .result ≡ length (listing (c .before .before .before .before .before .before .before .before .before .before .args .octets .now)) = omega (arith, c .before .before .before .before .before .before .put-text .ensures .0 .used) in (rw (le-leb (length (listing (c .before .before .before .before .before .before .before .before .before .before .args .octets .now))) (length (c .before .before .before .before .before .before .before .before .before .before .args .out .now)) (omega arith)) (ap Listed.Written u), (rw (le-leb (length (listing (c .before .before .before .before .before .before .before .before .before .before .args .octets .now))) (length (c .before .before .before .before .before .before .before .before .before .before .args .out .now)) (omega arith)) (put-whole (c .before .before .put-text2 .ensures .0) (omega arith)), omega (arith, c .before .before .before .before .before .before .put-text .ensures .1)))
+unfolding over
+returns-2 c = rw (listing-of (c .before .before .before .before .before .before .before .args .number) (c .before .before .before .before .before .before .before .args .out-of-sequence) (c .before .before .before .before .before .before .before .args .octets .now) (none-loaded (rw (c .enum-told .given .1) at (c .before .before .load .ensures))), le-leb 0 (length (c .before .before .before .before .before .before .before .args .out .now)) (omega arith)) (refl, (refl, omega arith))
 
 pub list-part-spec : {M : Type 1} → statement M
-list-part-spec = tie.close (tie.spec slice-aggregate-put-text put-text-requires returns put-text-requires-2 same-length returns-2)
+list-part-spec = tie.close (tie.spec load-requires enum-known-n array-share-prefix-table slice-aggregate-list-by list-by-requires enum-told same-length returns returns-2)

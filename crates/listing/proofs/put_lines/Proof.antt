@@ -3,10 +3,9 @@
 use Prim.Native.Nat.{_-_}
 use native.Mathlib.Omega.{arith}
 use mathlib.Core.Path.{sym, _∙_}
-use mathlib.Core.Bool.{false}
 use lib.ListN.{length}
 use Rattle.definitions.specs.Rows.{rowsOf}
-use Rattle.definitions.specs.Tables.{tableP, startOf}
+use Rattle.definitions.specs.Tables.{startOf}
 use Rattle.elements.proofs.Nexts.{nexts, cuts, ends}
 use Rattle.listing.proofs.Reading.{Writing, written-start, written, written-all, never-cut}
 use borrow.Author.Needs.{needs}
@@ -14,31 +13,31 @@ use Rattle.listing.proofs.put_lines.Statement.{statement}
 use Rattle.listing.proofs.put_lines.Tie as tie
 
 abbrev Inv-loop : tie.InvT-loop
-Inv-loop octets out₀ first state₀ used₀ out state used = Writing octets out₀ first state out used
+Inv-loop octets table option out₀ first state₀ used₀ out state used = Writing table option octets out₀ first state out used
 
 abbrev μ-loop : tie.MeasureT-loop
-μ-loop octets out₀ first state₀ used₀ out state used = length octets - state .at
+μ-loop octets table option out₀ first state₀ used₀ out state used = length octets - state .at
 
 start-state-requires : tie.Need-start-state-requires Inv-loop μ-loop
 start-state-requires c κs = search needs
 
 loop-holds : tie.Need-loop-holds Inv-loop μ-loop
-loop-holds c = written-start (c .before .before .before .args .octets .now) (c .before .before .before .args .out .now) (c .before .before .before .args .first) _ (c .start-state .ensures) (c .before .before .before .pre .2)
+loop-holds c = written-start (c .before .before .before .before .args .table .now) (c .before .before .before .before .args .option) (c .before .before .before .before .args .octets .now) (c .before .before .before .before .args .out .now) (c .before .before .before .before .args .first) _ (c .start-state .ensures) (c .before .before .before .before .pre .2)
 
 step-requires : tie.Need-step-requires Inv-loop μ-loop
-step-requires c κs = c .before .before .before .before .pre .0
+step-requires c κs = c .before .before .before .before .before .pre .0
 
 enum-known-e : tie.Need-enum-known-e Inv-loop μ-loop
 enum-known-e c = search needs
 
 put-line-requires : tie.Need-put-line-requires Inv-loop μ-loop
-put-line-requires c κs = omega (arith, c .before .before .before .before .before .loop .inv .bound, c .before .before .before .before .before .loop .inv .within, c .before .before .before .before .before .before .before .before .before .pre .0, c .before .before .before .before .before .before .before .before .before .pre .1)
+put-line-requires c κs = omega (arith, c .before .before .before .before .before .loop .inv .bound, c .before .before .before .before .before .loop .inv .within, c .before .before .before .before .before .before .before .before .before .before .pre .0 .short, c .before .before .before .before .before .before .before .before .before .before .pre .1)
 
 loop-less : tie.Need-loop-less Inv-loop μ-loop
-loop-less c = let n = nexts (rowsOf tableP) startOf false (c .before .before .before .before .before .before .before .before .before .before .before .before .args .octets .now) (c .before .before .before .before .before .before .before .before .loop .state) (c .before .before .before .before .before .before .before .before .loop .inv .within) _ _ (sym (c .before .before .before .before .before .e .given .1) ∙ c .before .before .before .before .before .before .before .step .ensures) in omega (arith, n .further, n .within, n .some-octet)
+loop-less c = let n = nexts (rowsOf (c .before .before .before .before .before .before .before .before .before .before .before .before .before .args .table .now)) startOf (c .before .before .before .before .before .before .before .before .before .before .before .before .before .args .option) (c .before .before .before .before .before .before .before .before .before .before .before .before .before .args .octets .now) (c .before .before .before .before .before .before .before .before .loop .state) (c .before .before .before .before .before .before .before .before .loop .inv .within) _ _ (sym (c .before .before .before .before .before .e .given .1) ∙ c .before .before .before .before .before .before .before .step .ensures) in omega (arith, n .further, n .within, n .some-octet)
 
 loop-again : tie.Need-loop-again Inv-loop μ-loop
-loop-again c = written (c .before .before .before .before .before .before .before .before .before .before .before .before .args .octets .now) (c .before .before .before .before .before .before .before .before .before .before .before .before .args .out .now) (c .before .before .before .before .before .before .before .before .before .before .before .before .args .first) _ _ _ _ _ _ _ (c .before .before .before .before .before .before .before .before .loop .inv) (nexts (rowsOf tableP) startOf false (c .before .before .before .before .before .before .before .before .before .before .before .before .args .octets .now) (c .before .before .before .before .before .before .before .before .loop .state) (c .before .before .before .before .before .before .before .before .loop .inv .within) _ _ (sym (c .before .before .before .before .before .e .given .1) ∙ c .before .before .before .before .before .before .before .step .ensures)) (c .before .before .put-line .ensures)
+loop-again c = written (c .before .before .before .before .before .before .before .before .before .before .before .before .before .args .table .now) (c .before .before .before .before .before .before .before .before .before .before .before .before .before .args .option) (c .before .before .before .before .before .before .before .before .before .before .before .before .before .args .octets .now) (c .before .before .before .before .before .before .before .before .before .before .before .before .before .args .out .now) (c .before .before .before .before .before .before .before .before .before .before .before .before .before .args .first) _ _ _ _ _ _ _ (c .before .before .before .before .before .before .before .before .loop .inv) (nexts (rowsOf (c .before .before .before .before .before .before .before .before .before .before .before .before .before .args .table .now)) startOf (c .before .before .before .before .before .before .before .before .before .before .before .before .before .args .option) (c .before .before .before .before .before .before .before .before .before .before .before .before .before .args .octets .now) (c .before .before .before .before .before .before .before .before .loop .state) (c .before .before .before .before .before .before .before .before .loop .inv .within) _ _ (sym (c .before .before .before .before .before .e .given .1) ∙ c .before .before .before .before .before .before .before .step .ensures)) (c .before .before .put-line .ensures)
 
 enum-told : tie.Need-enum-told Inv-loop μ-loop
 enum-told c = search needs
@@ -47,7 +46,7 @@ same-length : tie.Need-same-length Inv-loop μ-loop
 same-length c = c .before .before .before .loop .inv .long
 
 returns : tie.Need-returns Inv-loop μ-loop
-returns c = absurd (never-cut (c .before .before .before .before .before .before .before .args .octets .now) (c .before .before .before .before .before .before .before .args .out .now) (c .before .before .before .before .before .before .before .args .first) (c .before .before .before .loop .inv) (cuts (rowsOf tableP) startOf false (c .before .before .before .before .before .before .before .args .octets .now) (c .before .before .before .loop .state) (c .before .before .before .loop .inv .within) (sym (c .enum-told .given .1) ∙ c .before .before .step .ensures)))
+returns c = absurd (never-cut (c .before .before .before .loop .inv .reads) (cuts (rowsOf (c .before .before .before .before .before .before .before .before .args .table .now)) startOf (c .before .before .before .before .before .before .before .before .args .option) (c .before .before .before .before .before .before .before .before .args .octets .now) (c .before .before .before .loop .state) (c .before .before .before .loop .inv .within) (sym (c .enum-told .given .1) ∙ c .before .before .step .ensures)))
 
 enum-told-2 : tie.Need-enum-told-2 Inv-loop μ-loop
 enum-told-2 c = search needs
@@ -56,7 +55,7 @@ same-length-2 : tie.Need-same-length-2 Inv-loop μ-loop
 same-length-2 c = c .before .before .before .loop .inv .long
 
 returns-2 : tie.Need-returns-2 Inv-loop μ-loop
-returns-2 c = (written-all (c .before .before .before .before .before .before .before .args .octets .now) (c .before .before .before .before .before .before .before .args .out .now) (c .before .before .before .before .before .before .before .args .first) (c .before .before .before .loop .inv) (ends (rowsOf tableP) startOf false (c .before .before .before .before .before .before .before .args .octets .now) (c .before .before .before .loop .state) (c .before .before .before .loop .inv .within) (sym (c .enum-told2 .given .1) ∙ c .before .before .step .ensures)), omega (arith, c .before .before .before .loop .inv .bound, c .before .before .before .loop .inv .within, c .before .before .before .before .before .before .before .pre .0, c .before .before .before .before .before .before .before .pre .1))
+returns-2 c = (written-all (c .before .before .before .before .before .before .before .before .args .table .now) (c .before .before .before .before .before .before .before .before .args .option) (c .before .before .before .before .before .before .before .before .args .octets .now) (c .before .before .before .before .before .before .before .before .args .out .now) (c .before .before .before .before .before .before .before .before .args .first) (c .before .before .before .loop .inv) (ends (rowsOf (c .before .before .before .before .before .before .before .before .args .table .now)) startOf (c .before .before .before .before .before .before .before .before .args .option) (c .before .before .before .before .before .before .before .before .args .octets .now) (c .before .before .before .loop .state) (c .before .before .before .loop .inv .within) (sym (c .enum-told2 .given .1) ∙ c .before .before .step .ensures)), omega (arith, c .before .before .before .loop .inv .bound, c .before .before .before .loop .inv .within, c .before .before .before .before .before .before .before .before .pre .0 .short, c .before .before .before .before .before .before .before .before .pre .1))
 
 pub put-lines-spec : {M : Type 1} → statement M
 put-lines-spec = tie.close (tie.spec Inv-loop μ-loop start-state-requires loop-holds step-requires enum-known-e put-line-requires loop-less loop-again enum-told same-length returns enum-told-2 same-length-2 returns-2)

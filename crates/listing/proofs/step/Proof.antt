@@ -1,15 +1,10 @@
--- `step` is the public step by table P, which passes its check, on a part within the limit.
+-- `step` is the public step by a table that passes its check, on a part within the limit.
 -- Each arm names what the step answered.
 use mathlib.Core.Path.{sym, _∙_}
-use Rattle.definitions.specs.Basic.{concat}
-use Rattle.definitions.specs.Tables.{row, tableP}
 use Rattle.listing.proofs.Reading.{stepped}
 use borrow.Author.Needs.{needs}
 use Rattle.listing.proofs.step.Statement.{statement}
 use Rattle.listing.proofs.step.Tie as tie
-
-slice-aggregate-next-element : tie.Need-slice-aggregate-next-element
-slice-aggregate-next-element c = search needs
 
 next-element-requires : tie.Need-next-element-requires
 next-element-requires c κs = search needs
@@ -30,24 +25,19 @@ enum-told-3 : tie.Need-enum-told-3
 enum-told-3 c = search needs
 
 returns : tie.Need-returns
-unfolding concat row tableP
-returns c = stepped (c .before .before .before .before .before .before .args .octets .now) (c .before .before .before .before .before .before .args .state) (c .before .before .before .before .before .before .pre) (sym (c .before .e .given .1) ∙ c .before .before .before .next-element .ensures)
+returns c = stepped (c .before .before .before .before .before .before .args .table .now) (c .before .before .before .before .before .before .args .option) (c .before .before .before .before .before .before .args .octets .now) (c .before .before .before .before .before .before .args .state) (c .before .before .before .before .before .before .pre) (sym (c .before .e .given .1) ∙ c .before .before .before .next-element .ensures)
 
 returns-2 : tie.Need-returns-2
-unfolding concat row tableP
-returns-2 c = stepped (c .before .before .before .before .before .before .args .octets .now) (c .before .before .before .before .before .before .args .state) (c .before .before .before .before .before .before .pre) (sym (c .before .start .given .1) ∙ c .before .before .before .next-element .ensures)
+returns-2 c = stepped (c .before .before .before .before .before .before .args .table .now) (c .before .before .before .before .before .before .args .option) (c .before .before .before .before .before .before .args .octets .now) (c .before .before .before .before .before .before .args .state) (c .before .before .before .before .before .before .pre) (sym (c .before .start .given .1) ∙ c .before .before .before .next-element .ensures)
 
 returns-3 : tie.Need-returns-3
-unfolding concat row tableP
-returns-3 c = stepped (c .before .before .before .before .before .args .octets .now) (c .before .before .before .before .before .args .state) (c .before .before .before .before .before .pre) (sym (c .enum-told .given .1) ∙ c .before .before .next-element .ensures)
+returns-3 c = stepped (c .before .before .before .before .before .args .table .now) (c .before .before .before .before .before .args .option) (c .before .before .before .before .before .args .octets .now) (c .before .before .before .before .before .args .state) (c .before .before .before .before .before .pre) (sym (c .enum-told .given .1) ∙ c .before .before .next-element .ensures)
 
 returns-4 : tie.Need-returns-4
-unfolding concat row tableP
-returns-4 c = stepped (c .before .before .before .before .before .args .octets .now) (c .before .before .before .before .before .args .state) (c .before .before .before .before .before .pre) (sym (c .enum-told2 .given .1) ∙ c .before .before .next-element .ensures)
+returns-4 c = stepped (c .before .before .before .before .before .args .table .now) (c .before .before .before .before .before .args .option) (c .before .before .before .before .before .args .octets .now) (c .before .before .before .before .before .args .state) (c .before .before .before .before .before .pre) (sym (c .enum-told2 .given .1) ∙ c .before .before .next-element .ensures)
 
 returns-5 : tie.Need-returns-5
-unfolding concat row tableP
-returns-5 c = stepped (c .before .before .before .before .before .args .octets .now) (c .before .before .before .before .before .args .state) (c .before .before .before .before .before .pre) (sym (c .enum-told3 .given .1) ∙ c .before .before .next-element .ensures)
+returns-5 c = stepped (c .before .before .before .before .before .args .table .now) (c .before .before .before .before .before .args .option) (c .before .before .before .before .before .args .octets .now) (c .before .before .before .before .before .args .state) (c .before .before .before .before .before .pre) (sym (c .enum-told3 .given .1) ∙ c .before .before .next-element .ensures)
 
 pub step-spec : {M : Type 1} → statement M
-step-spec = tie.close (tie.spec slice-aggregate-next-element next-element-requires enum-known-e enum-known-start enum-told enum-told-2 enum-told-3 returns returns-2 returns-3 returns-4 returns-5)
+step-spec = tie.close (tie.spec next-element-requires enum-known-e enum-known-start enum-told enum-told-2 enum-told-3 returns returns-2 returns-3 returns-4 returns-5)

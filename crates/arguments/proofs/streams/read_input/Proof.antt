@@ -5,8 +5,8 @@ use mathlib.Core.Path.{_≡_}
 use lib.ListN.{length}
 use Rattle.io.proofs.Counting.{counts}
 use borrow.Author.Needs.{needs}
-use Rattle.nas_list.proofs.read_input.Statement.{statement}
-use Rattle.nas_list.proofs.read_input.Tie as tie
+use Rattle.arguments.proofs.streams.read_input.Statement.{statement}
+use Rattle.arguments.proofs.streams.read_input.Tie as tie
 
 abbrev Inv-loop : tie.InvT-loop
 Inv-loop part₀ len₀ part len = (len ≤ length part) × (length part ≡ length part₀)

@@ -1,0 +1,4 @@
+-- Laws that the proofs of this crate cite.
+pub mod Numbers
+pub mod HexLaws
+pub mod HexExamples

@@ -1,0 +1,89 @@
+-- `put_line_at` looks for the element: what is left of the part has the line that the whole part has.
+-- The measure is what is left of the part; a part that is read whole is never cut short.
+use Prim.Native.Nat.{_-_}
+use native.Mathlib.Omega.{arith}
+use mathlib.Core.Path.{_≡_, refl, ap, sym, _∙_}
+use mathlib.Core.Bool.{false}
+use lib.ListN.{length}
+use Rattle.definitions.specs.Rows.{rowsOf}
+use Rattle.definitions.specs.Tables.{startOf}
+use Rattle.elements.proofs.Nexts.{nexts, cuts, ends}
+use Rattle.listing.proofs.Puts.{at-text, at-buffer, put-none, put-long}
+use Rattle.listing.proofs.Reading.{never-cut}
+use Rattle.listing.proofs.Finding.{Looking, looking-start, found, passed-over, found-none}
+use borrow.Author.Needs.{needs}
+use Rattle.listing.proofs.verdicts.put_line_at.Statement.{statement}
+use Rattle.listing.proofs.verdicts.put_line_at.Tie as tie
+
+abbrev Inv-loop : tie.InvT-loop
+Inv-loop octets table at out₀ used state₀ out state = Looking table octets at state × (out ≡ out₀)
+
+abbrev μ-loop : tie.MeasureT-loop
+μ-loop octets table at out₀ used state₀ out state = length octets - state .at
+
+start-state-requires : tie.Need-start-state-requires Inv-loop μ-loop
+start-state-requires c κs = search needs
+
+loop-holds : tie.Need-loop-holds Inv-loop μ-loop
+loop-holds c = (looking-start (c .before .before .before .before .args .table .now) (c .before .before .before .before .args .octets .now) (c .before .before .before .before .args .at) _ (c .start-state .ensures) (c .before .before .before .before .pre .2), refl)
+
+step-requires : tie.Need-step-requires Inv-loop μ-loop
+step-requires c κs = c .before .before .before .before .before .pre .0
+
+enum-known-e : tie.Need-enum-known-e Inv-loop μ-loop
+enum-known-e c = search needs
+
+put-line-requires : tie.Need-put-line-requires Inv-loop μ-loop
+put-line-requires c κs = omega (arith, c .before .before .before .before .before .before .before .before .before .before .before .before .pre .1)
+
+same-length : tie.Need-same-length Inv-loop μ-loop
+same-length c = put-long (c .before .before .put-line .ensures) ∙ ap length (c .before .before .before .before .before .before .before .before .before .before .loop .inv .1)
+
+returns : tie.Need-returns Inv-loop μ-loop
+returns c = at-text (found (c .before .before .before .before .before .before .before .before .before .before .before .before .before .before .before .args .table .now) (c .before .before .before .before .before .before .before .before .before .before .before .before .before .before .before .args .octets .now) (c .before .before .before .before .before .before .before .before .before .before .before .before .before .before .before .args .at) (c .before .before .before .before .before .before .before .before .before .before .loop .inv .0) (nexts (rowsOf (c .before .before .before .before .before .before .before .before .before .before .before .before .before .before .before .args .table .now)) startOf false (c .before .before .before .before .before .before .before .before .before .before .before .before .before .before .before .args .octets .now) (c .before .before .before .before .before .before .before .before .before .before .loop .state) (c .before .before .before .before .before .before .before .before .before .before .loop .inv .0 .within) _ _ (sym (c .before .before .before .before .before .before .before .e .given .1) ∙ c .before .before .before .before .before .before .before .before .before .step .ensures)) (c .before .before .before .before .if1 .taken)) (at-buffer (c .before .before .before .before .before .before .before .before .before .before .loop .inv .1) (c .before .before .put-line .ensures))
+
+loop-less : tie.Need-loop-less Inv-loop μ-loop
+loop-less c = let n = nexts (rowsOf (c .before .before .before .before .before .before .before .before .before .before .before .args .table .now)) startOf false (c .before .before .before .before .before .before .before .before .before .before .before .args .octets .now) (c .before .before .before .before .before .before .loop .state) (c .before .before .before .before .before .before .loop .inv .0 .within) _ _ (sym (c .before .before .before .e .given .1) ∙ c .before .before .before .before .before .step .ensures) in omega (arith, n .further, n .within, n .some-octet)
+
+loop-again : tie.Need-loop-again Inv-loop μ-loop
+loop-again c = (passed-over (c .before .before .before .before .before .before .before .before .before .before .before .args .table .now) (c .before .before .before .before .before .before .before .before .before .before .before .args .octets .now) (c .before .before .before .before .before .before .before .before .before .before .before .args .at) (c .before .before .before .before .before .before .loop .inv .0) (nexts (rowsOf (c .before .before .before .before .before .before .before .before .before .before .before .args .table .now)) startOf false (c .before .before .before .before .before .before .before .before .before .before .before .args .octets .now) (c .before .before .before .before .before .before .loop .state) (c .before .before .before .before .before .before .loop .inv .0 .within) _ _ (sym (c .before .before .before .e .given .1) ∙ c .before .before .before .before .before .step .ensures)) (c .if1 .left), c .before .before .before .before .before .before .loop .inv .1)
+
+enum-told : tie.Need-enum-told Inv-loop μ-loop
+enum-told c = search needs
+
+same-length-2 : tie.Need-same-length-2 Inv-loop μ-loop
+same-length-2 c = ap length (c .before .before .before .loop .inv .1)
+
+returns-2 : tie.Need-returns-2 Inv-loop μ-loop
+returns-2 c = absurd (never-cut (c .before .before .before .loop .inv .0 .reads) (cuts (rowsOf (c .before .before .before .before .before .before .before .before .args .table .now)) startOf false (c .before .before .before .before .before .before .before .before .args .octets .now) (c .before .before .before .loop .state) (c .before .before .before .loop .inv .0 .within) (sym (c .enum-told .given .1) ∙ c .before .before .step .ensures)))
+
+enum-told-2 : tie.Need-enum-told-2 Inv-loop μ-loop
+enum-told-2 c = search needs
+
+same-length-3 : tie.Need-same-length-3 Inv-loop μ-loop
+same-length-3 c = ap length (c .before .before .before .loop .inv .1)
+
+returns-3 : tie.Need-returns-3 Inv-loop μ-loop
+returns-3 c = at-text (found-none (c .before .before .before .before .before .before .before .before .args .table .now) (c .before .before .before .before .before .before .before .before .args .octets .now) (c .before .before .before .before .before .before .before .before .args .at) (c .before .before .before .loop .inv .0) (ends (rowsOf (c .before .before .before .before .before .before .before .before .args .table .now)) startOf false (c .before .before .before .before .before .before .before .before .args .octets .now) (c .before .before .before .loop .state) (c .before .before .before .loop .inv .0 .within) (sym (c .enum-told2 .given .1) ∙ c .before .before .step .ensures))) (at-buffer (c .before .before .before .loop .inv .1) (put-none (c .before .before .before .loop .out) (c .before .before .before .before .before .before .before .before .args .used)))
+
+pub put-line-at-spec : {M : Type 1} → statement M
+put-line-at-spec =
+    tie.close
+    (tie.spec
+    Inv-loop
+    μ-loop
+    start-state-requires
+    loop-holds
+    step-requires
+    enum-known-e
+    put-line-requires
+    same-length
+    returns
+    loop-less
+    loop-again
+    enum-told
+    same-length-2
+    returns-2
+    enum-told-2
+    same-length-3
+    returns-3)

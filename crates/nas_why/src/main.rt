@@ -1,0 +1,35 @@
+// Why an element of an optional part was set aside: the part's octets on standard input, one line on standard output. The arguments
+// are the table number, whether the option is on, 0 or 1, and the element's number, as bin/launch hands them over.
+use arguments::argument_or;
+use arguments::streams::FAILED;
+use arguments::streams::read_part;
+use arguments::streams::tell;
+use arguments::streams::write_text;
+use listing::grounds::why_text;
+
+// One octet more than a part may have, so that a longer part is seen.
+const MOST_READ: usize = 4097;
+
+fn say(part: &[u8]) -> u8 {
+    let mut text = [0u8; 64];
+    let number = argument_or(1, 0);
+    let option = argument_or(2, 0) == 1;
+    let element = argument_or(3, 0) as usize;
+    let told = why_text(number, part, option, element, &mut text);
+    let len = told.len;
+    write_text(&text[..len], told.refused, b"nas-why: standard output")
+}
+
+fn say_input() -> u8 {
+    let mut part = [0u8; MOST_READ];
+    let input = read_part(&mut part, b"nas-why: standard input");
+    if input.failed {
+        return FAILED;
+    }
+    let len = input.len;
+    say(&part[..len])
+}
+
+fn main() {
+    tell(say_input());
+}
