@@ -44,7 +44,7 @@ logs-room t start option part es p = let j = elements-join t start option part e
 
 -- reading is done where the part decodes and what is lent holds the result
 pub done : (table : List ℕ) (start : ℕ) (option : Bool) (part : List ℕ) (l : Lent) {es : List Element} → Readable table part
-    → parted (rowsOf table) start option part ≡ elements es → 3 * length (rowsOf table) ≤ length (l .rows) → length (keptOf es) ≤ length (l .kept)
+    → parted (rowsOf table) start option part ≡ elements es → 4 * length (rowsOf table) ≤ length (l .rows) → length (keptOf es) ≤ length (l .kept)
     → length (orderOf (rowsOf table) es) ≤ length (l .order) → reading table start option part l ≡ readElements (rowsOf table) l es
 unfolding reading readingChecks refusal cutOf elementsOf
 done table start option part l {es} h p r k o =

@@ -9,6 +9,7 @@ use Rattle.definitions.specs.Basic.{mostOctets}
 use Rattle.definitions.specs.Rows.{Row, rowsOf, firstBad}
 use Rattle.definitions.specs.Elements.{Element, elements, parted}
 use Rattle.definitions.specs.Logs.{keptOf, orderOf}
+use Rattle.definitions.specs.Values.{placeWidth}
 use Rattle.definitions.specs.Reading.{Lent, reading}
 
 -- each log of a part that decodes takes at most twice the part's octets
@@ -22,9 +23,9 @@ pub record Readable (table part : List ℕ) : Type 0 where
   pub passes : firstBad (rowsOf table) ≡ none
   pub short : length part ≤ mostOctets
 
--- a row of three numbers for every place, and two logs, each with room for twice a part's length
+-- a row of four numbers for every place, and two logs, each with room for twice a part's length
 pub record Enough (table part : List ℕ) (l : Lent) : Type 0 where
-  pub rows : 3 * length (rowsOf table) ≤ length (l .rows)
+  pub rows : placeWidth * length (rowsOf table) ≤ length (l .rows)
   pub kept : 2 * length part ≤ length (l .kept)
   pub order : 2 * length part ≤ length (l .order)
 

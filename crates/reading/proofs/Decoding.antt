@@ -1,20 +1,19 @@
 -- Reading by what measuring and filling say: each answer of the code is the definition's, with the lent memory that it leaves.
 -- A refusal leaves all as it was; where reading is done, what was filled is the definition's.
-use Prim.Native.Nat.{ℕ, suc, _+_, _*_, _≤_, _<_}
+use Prim.Native.Nat.{ℕ, _+_, _*_, _≤_, _<_}
 use native.Mathlib.Omega.{arith}
 use mathlib.Core.Path.{_≡_, refl, ap, sym, _∙_}
-use mathlib.Core.List.{List, [], _∷_, _++_}
-use mathlib.Core.Bool.{Bool, true, false, _&&_, false≢true}
-use mathlib.Core.Option.{Option, none, some}
+use mathlib.Core.List.{List, []}
+use mathlib.Core.Bool.{Bool, true, false, false≢true}
+use mathlib.Core.Option.{none, some}
 use lib.ListN.{length}
-use lib.Dec.{eqb, leb}
-use Rattle.definitions.specs.Basic.{pick, Answer, answer, over, mostOctets}
-use Rattle.definitions.specs.Rows.{Row, rowsOf, firstIei, firstBad}
-use Rattle.definitions.specs.Elements.{Verdict, accepted, unknown, malformed, repeated, outOfSequence, isAccepted, Element, ieiAt, Parted, elements, cutShort, elementsOf, parted}
-use Rattle.definitions.specs.Logs.{keptEntry, keptOf, entriesOf, plainFrom, orderOf}
+use Rattle.definitions.specs.Basic.{Answer, answer, over, mostOctets}
+use Rattle.definitions.specs.Rows.{Row, rowsOf, firstBad}
+use Rattle.definitions.specs.Elements.{Element, Parted, elements, cutShort, elementsOf, parted}
+use Rattle.definitions.specs.Logs.{keptOf, entriesOf, orderOf}
 use Rattle.definitions.specs.Reading.{Lent, Read, unread, placeRows, readElements, reading, readingBy}
 use Rattle.definitions.specs.Tables.{tableOf, startOf}
-use Rattle.definitions.proofs.RowLaws.{both}
+use Rattle.definitions.proofs.PlainLaws.{kept-none}
 use Rattle.definitions.proofs.Readings.{read-long, read-rows, read-cut, read-kept, read-order, read-done}
 use Rattle.rows.specs.Indexed.{Indexed}
 use Rattle.reading.specs.Measures.{measuredFrom, noTally}
@@ -81,22 +80,6 @@ unfolding elementsOf orderOf
 plain-order t (elements es) e = rw e
 plain-order t (cutShort a x n m) e = absurd (false≢true e)
 
-kept-none : (t : List Row) (least : ℕ) (es : List Element) → plainFrom t least es ≡ true → keptOf es ≡ []
-unfolding plainFrom keptOf isAccepted
-kept-none t least [] e = refl
-kept-none t least (d ∷ es) e = by (d .place) (d .verdict) e (λ k. kept-none t k es)
-  where
-    by : (o : Option ℕ) (v : Verdict) → elim o [ none ↦ false | some k ↦ isAccepted v && (leb least k && (eqb (ieiAt d) (firstIei t k) && plainFrom t (suc k) es)) ] ≡ true
-        → ((k : ℕ) → plainFrom t k es ≡ true → keptOf es ≡ []) → pick (isAccepted v) (keptOf es) (keptEntry (d .octets) ++ keptOf es) ≡ []
-    by none v q f = absurd (false≢true q)
-    by (some k) accepted q f =
-        let a = both (leb least k) (eqb (ieiAt d) (firstIei t k) && plainFrom t (suc k) es) q in
-        f (suc k) (both (eqb (ieiAt d) (firstIei t k)) (plainFrom t (suc k) es) (a .1) .1)
-    by (some k) unknown q f = absurd (false≢true q)
-    by (some k) malformed q f = absurd (false≢true q)
-    by (some k) repeated q f = absurd (false≢true q)
-    by (some k) outOfSequence q f = absurd (false≢true q)
-
 plain-kept : (t : List Row) (p : Parted) → plainIn t 0 p ≡ true → keptOf (elementsOf p) ≡ []
 unfolding elementsOf
 plain-kept t (elements es) e = kept-none t 0 es e
@@ -121,10 +104,10 @@ module _ (table : List ℕ) (start : ℕ) (option : Bool) (part rows kept order 
   long h = refused {l = l} (read-long table start option part l passes h) refl
 
   module _ (short : length part ≤ mostOctets) where
-    pub no-rows : length rows < 3 * length t → Reads r (Decoded.NoRoom Room.Rows) rows kept order
+    pub no-rows : length rows < 4 * length t → Reads r (Decoded.NoRoom Room.Rows) rows kept order
     no-rows h = refused {l = l} (read-rows table start option part l passes short h) refl
 
-    module _ (room : 3 * length t ≤ length rows) where
+    module _ (room : 4 * length t ≤ length rows) where
       pub cut-short : {a x n m : ℕ} → p ≡ cutShort a x n m → Reads r (Decoded.CutShort a x n m) rows kept order
       cut-short e = refused {l = l} (read-cut table start option part l passes short room e) refl
 

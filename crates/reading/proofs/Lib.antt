@@ -7,4 +7,6 @@ pub mod Entered
 pub mod Lining
 pub mod Copied
 pub mod Decoding
+pub mod Parts
+pub mod InBlock
 pub mod SameAnswers

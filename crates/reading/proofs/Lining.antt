@@ -15,7 +15,8 @@ use Rattle.definitions.specs.Basic.{pick, bit, overAt}
 use Rattle.definitions.specs.Rows.{Row, rowsOf, rowAt, ieiOf, firstIei, firstBad}
 use Rattle.definitions.specs.Length.{unknownLength, missing, required}
 use Rattle.definitions.specs.Elements.{Verdict, accepted, unknown, malformed, repeated, outOfSequence, isAccepted, judged, Element as DefElement, ieiAt, Parted, elements, cutShort, before, Met, meet, stranger, known, parted, step}
-use Rattle.definitions.specs.Logs.{plainFrom}
+use Rattle.definitions.specs.Logs.{plainAt, plainFrom}
+use Rattle.definitions.proofs.BitLaws.{no-bit}
 use Rattle.definitions.proofs.Steps.{Stands, strange, placed}
 use Rattle.order.specs.declared.Placed.{Placed}
 use Rattle.rows.specs.Numbers.{numbersAt, rowSaid}
@@ -31,7 +32,7 @@ use Rattle.elements.proofs.Nexts.{from, from-start, Nexts, nexts, cuts, at-end}
 use Rattle.reading.specs.Fills.{before as headOf, rowEntered, enteredAll}
 use Rattle.reading.specs.Plains.{plainRows}
 use Rattle.reading.proofs.Accepted.{Accepted, accepted-one}
-use Rattle.reading.proofs.Entered.{met-with, no-bit}
+use Rattle.reading.proofs.Entered.{met-with}
 
 -- ---- the element in front
 
@@ -53,10 +54,9 @@ known-accepted malformed i e = let z : _≡_ {A = ℕ} 0 1 = cc in absurd (omega
 known-accepted repeated i e = let z : _≡_ {A = ℕ} 0 1 = cc in absurd (omega arith)
 known-accepted outOfSequence i e = let z : _≡_ {A = ℕ} 0 1 = cc in absurd (omega arith)
 
-pick-both : {X : Type 0} (a b c : Bool) (x : Option X) → pick (a && (b && c)) x none ≡ pick (a && b) (pick c x none) none
-pick-both true true c x = refl
-pick-both true false c x = refl
-pick-both false b c x = refl
+pick-both : {X : Type 0} (a b : Bool) (x : Option X) → pick (a && b) x none ≡ pick a (pick b x none) none
+pick-both true b x = refl
+pick-both false b x = refl
 
 pick-none : {X : Type 0} (b : Bool) → _≡_ {A = Option X} none (pick b none none)
 pick-none true = refl
@@ -74,15 +74,15 @@ module _ (t : List Row) (least : ℕ) (rows : List ℕ) where
     made o v = record { at = at; octets = octets; place = o; verdict = v }
 
     aside : (o : Option ℕ) (v : Verdict) (p : Parted) → isAccepted v ≡ false → plainRows t least (before (made o v) p) rows ≡ none
-    unfolding before plainFrom
+    unfolding before plainFrom plainAt
     aside none v (elements es) h = refl
     aside (some k) v (elements es) h = rw h
     aside o v (cutShort a x n m) h = refl
 
     front : (o : Option ℕ) (v : Verdict) (p : Parted) → HasPlace o v → plainRows t least (before (made o v) p) rows ≡ ahead (elementOf (made o v)) p (placedFor (ieiAt (made o v)) v)
-    unfolding before plainFrom enteredAll elementOf isAccepted
+    unfolding before plainFrom plainAt enteredAll elementOf isAccepted
     front none accepted p h = let z : _≡_ {A = Bool} true false = h in absurd (true≢false z)
-    front (some k) accepted (elements es) h = pick-both (leb least k) (eqb (ieiAt (made (some k) accepted)) (firstIei t k)) (plainFrom t (suc k) es) _
+    front (some k) accepted (elements es) h = pick-both (leb least k && eqb (ieiAt (made (some k) accepted)) (firstIei t k)) (plainFrom t (suc k) es) _
     front (some k) accepted (cutShort a x n m) h = pick-none (leb least k && eqb (ieiAt (made (some k) accepted)) (firstIei t k))
     front o unknown p h = aside o unknown p refl
     front o malformed p h = aside o malformed p refl
@@ -116,7 +116,7 @@ module _ (t : List Row) (start : ℕ) (option : Bool) (part : List ℕ) where
     pub ends : at + n ≤ length part
     pub listed : k < length t
     pub headed : headOf t k ≤ n
-    pub then : (rows′ : List ℕ) → rows′ ≡ overAt (3 * k) (1 ∷ (at + headOf t k) ∷ (n - headOf t k) ∷ []) rows → Lining rows₀ (at + n) (k + 1) rows′
+    pub then : (rows′ : List ℕ) → rows′ ≡ overAt (4 * k) (1 ∷ (at + headOf t k) ∷ (n - headOf t k) ∷ firstIei t k ∷ []) rows → Lining rows₀ (at + n) (k + 1) rows′
 
   pub begun : (rows₀ : List ℕ) → Lining rows₀ 0 0 rows₀
   begun rows₀ =
@@ -253,7 +253,7 @@ module _ (table index : List ℕ) (i : Indexed table index) (passes : firstBad (
               unmet = λ j g. met-with a j ∙ rw (ne-eqb j (a .place) (λ e. omega (arith, e, p, g))) (l .line .unmet j (omega arith));
               behind = omega (arith, l .line .behind);
             } in
-            let r : ahead t least rows (element accepted) (from t start option part then) (placedFor iei accepted) ≡ rest t start option part then (k + 1) (overAt (3 * k) (1 ∷ (at + headOf t k) ∷ (n - headOf t k) ∷ []) rows) =
+            let r : ahead t least rows (element accepted) (from t start option part then) (placedFor iei accepted) ≡ rest t start option part then (k + 1) (overAt (4 * k) (1 ∷ (at + headOf t k) ∷ (n - headOf t k) ∷ iei ∷ []) rows) =
             rw (le-leb least k h, eq-eqb iei (firstIei t k) f, add-one k) in
             record {
               some-octet = next-is .some-octet;
@@ -268,7 +268,8 @@ module _ (table index : List ℕ) (i : Indexed table index) (passes : firstBad (
                     line = c;
                     tells =
                         rw e
-                        (sym r
+                        (ap (λ (i : ℕ). rest t start option part then (k + 1) (overAt (4 * k) (1 ∷ (at + headOf t k) ∷ (n - headOf t k) ∷ i ∷ []) rows)) (sym f)
+                        ∙ sym r
                         ∙ ap (λ (v : Verdict). ahead t least rows (element v) (from t start option part then) (placedFor iei v)) (sym good)
                         ∙ ahead-is _ _ next-is);
                   };

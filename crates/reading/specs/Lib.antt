@@ -3,3 +3,4 @@ pub mod Measures
 pub mod Fills
 pub mod Plains
 pub mod Decodes
+pub mod Blocks

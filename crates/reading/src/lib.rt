@@ -1,4 +1,5 @@
 // Reading an optional part: what it needs of the lent logs, then what it writes, by a lent table and by number.
+pub mod block;
 pub mod decode;
 mod fill;
 mod measure;

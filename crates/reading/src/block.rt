@@ -1,0 +1,245 @@
+// Reading an optional part into one block: the kept log first, the order log directly behind it.
+use crate::decode::Decoded;
+use crate::decode::Room;
+use crate::fill::clear_rows;
+use crate::fill::enter_row;
+use crate::fill::keep_octets;
+use crate::fill::note;
+use crate::measure::Measured;
+use crate::measure::measure;
+use crate::plain::plain_many;
+use elements::element::Came;
+use elements::element::Element;
+use elements::element::NO_PLACE;
+use elements::element::State;
+use elements::element::after;
+use elements::element::came_known;
+use elements::element::came_unknown;
+use elements::element::entry_of;
+use elements::element::iei_of;
+use numbered::Loaded;
+use numbered::TLVE_START;
+use numbered::load;
+use octets::MOST_OCTETS;
+use order::Placed;
+use rows::check::Checked;
+use rows::check::check_and_index;
+use rows::columns::numbers_at;
+use rows::columns::places;
+use seen::Seen;
+use seen::seen_has;
+ghost use mathlib.Core.Path.{_≡_};
+ghost use mathlib.Core.Option.{none};
+ghost use mathlib.Core.Bool.{false};
+ghost use Prim.Native.Nat.{_+_, _≤_};
+ghost use lib.ListN.{length, take, drop};
+ghost use Rattle.definitions.specs.Basic.{overAt};
+ghost use Rattle.definitions.specs.Rows.{rowsOf, firstBad};
+ghost use Rattle.definitions.specs.Elements.{elements, elementsOf, parted};
+ghost use Rattle.definitions.specs.Block.{readingBlock, readingBlockBy};
+ghost use Rattle.rows.specs.Indexed.{Indexed};
+ghost use Rattle.reading.specs.Fills.{keptOfFound, outcome, filledFrom, Ready, Written};
+ghost use Rattle.reading.specs.Plains.{Fits, plainIn};
+ghost use Rattle.reading.specs.Blocks.{ReadsBlock};
+
+// An element that no row took, behind what the block has of the kept log; the octets then used. As `keep` does: a function of two callers
+// would not be put into the loop of either.
+fn keep_here(octets: &[u8], e: Element, block: &mut [u8], used: usize) -> usize
+    requires { ⌜ (e .start + e .len ≤ length (now octets)) × (1 ≤ e .len) × (e .len ≤ 65535) × (used + length (keptOfFound e (now octets)) ≤ length (now block)) ⌝ }
+    ensures { λ r. ⌜ (r ≡ used + length (keptOfFound e (now (octets .entry)))) × (now (block .exit) ≡ overAt used (keptOfFound e (now (octets .entry))) (now (block .entry))) ⌝ }
+{
+    let placed = e.placed;
+    let start = e.start;
+    let end = start + e.len;
+    match placed {
+        Placed::Known(_) => used,
+        Placed::Unknown => keep_octets(&octets[start..end], block, used),
+        Placed::Ignored(_) => keep_octets(&octets[start..end], block, used),
+    }
+}
+
+// Every element of a part, into rows and the two parts of a block, which have room: the octets up to the seam, and those from there on.
+// As `fill_elements` does, with both logs in one slice, since two parts of one cannot be lent at once.
+fn fill_parts(
+    octets: &[u8],
+    table: &[u32],
+    index: &[u8; 256],
+    tlve_start: u8,
+    option: bool,
+    rows: &mut [u32],
+    block: &mut [u8],
+    seam: usize,
+) -> Measured
+    requires { ⌜ Ready (now table) (now index) «tlve_start» option (now octets) (now rows) (take seam (now block)) (drop seam (now block)) × (seam ≤ length (now block)) ⌝ }
+    ensures { λ r. ⌜ outcome r (now (rows .exit)) (take seam (now (block .exit))) (drop seam (now (block .exit))) ≡ filledFrom (rowsOf (now (table .entry))) (parted (rowsOf (now (table .entry))) «tlve_start» option (now (octets .entry))) 0 0 (now (rows .entry)) (take seam (now (block .entry))) (drop seam (now (block .entry))) ⌝ }
+{
+    let mut state = State {
+        at: 0,
+        seen: Seen { low: 0, high: 0 },
+        highest: 0,
+    };
+    let mut k = 0;
+    let mut o = seam;
+    loop {
+        let at = state.at;
+        if at >= octets.len() {
+            return Measured::Needs(k, o - seam);
+        }
+        let x = octets[at];
+        let iei = iei_of(x);
+        let place = entry_of(index, iei);
+        let left = &octets[at..];
+        let seen = state.seen;
+        let highest = state.highest;
+        let came = if place == NO_PLACE {
+            came_unknown(left, x, tlve_start)
+        } else {
+            let row = numbers_at(table, place);
+            let again = seen_has(seen, place);
+            came_known(left, row, iei, option, again, place < highest)
+        };
+        match came {
+            Came::Is(len, placed) => {
+                let e = Element {
+                    start: at,
+                    len,
+                    iei,
+                    place,
+                    placed,
+                };
+                enter_row(rows, table, e);
+                k = keep_here(octets, e, block, k);
+                o = note(placed, block, o);
+                state = after(state, place, at + len);
+            }
+            Came::Cut(missing) => {
+                return Measured::Cut(at, x, left.len(), missing);
+            }
+        }
+    }
+}
+
+// All that reading writes of a part that decodes: the rows of every place, and both logs.
+fn fill_block(
+    octets: &[u8],
+    table: &[u32],
+    index: &[u8; 256],
+    tlve_start: u8,
+    option: bool,
+    rows: &mut [u32],
+    block: &mut [u8],
+    seam: usize,
+)
+    requires { ⌜ Ready (now table) (now index) «tlve_start» option (now octets) (now rows) (take seam (now block)) (drop seam (now block)) × (seam ≤ length (now block)) × (parted (rowsOf (now table)) «tlve_start» option (now octets) ≡ elements (elementsOf (parted (rowsOf (now table)) «tlve_start» option (now octets)))) ⌝ }
+    ensures { λ r. ⌜ Written (rowsOf (now (table .entry))) (elementsOf (parted (rowsOf (now (table .entry))) «tlve_start» option (now (octets .entry)))) (now (rows .entry)) (take seam (now (block .entry))) (drop seam (now (block .entry))) (now (rows .exit)) (take seam (now (block .exit))) (drop seam (now (block .exit))) ⌝ }
+{
+    clear_rows(rows, 4 * places(table));
+    fill_parts(octets, table, index, tlve_start, option, rows, block, seam);
+}
+
+// A part of which the table does not say all: what it needs of the block, then what is written.
+fn block_elements(
+    octets: &[u8],
+    table: &[u32],
+    index: &[u8; 256],
+    tlve_start: u8,
+    option: bool,
+    rows: &mut [u32],
+    block: &mut [u8],
+) -> Decoded
+    requires { ⌜ Fits (now table) (now index) (now octets) (length (now rows)) × (plainIn (rowsOf (now table)) 0 (parted (rowsOf (now table)) «tlve_start» option (now octets)) ≡ false) ⌝ }
+    ensures { λ r. ⌜ ReadsBlock (readingBlock (now (table .entry)) «tlve_start» option (now (octets .entry)) (now (rows .entry)) (now (block .entry))) r (now (rows .exit)) (now (block .exit)) ⌝ }
+{
+    match measure(octets, table, index, tlve_start, option) {
+        Measured::Cut(start, x, left, missing) => Decoded::CutShort(start, x, left, missing),
+        Measured::Needs(k, o) => {
+            if block.len() < k {
+                return Decoded::NoRoom(Room::Kept);
+            }
+            if block.len() - k < o {
+                return Decoded::NoRoom(Room::Kept);
+            }
+            fill_block(octets, table, index, tlve_start, option, rows, block, k);
+            Decoded::Done(k, o)
+        }
+    }
+}
+
+// By a table that passes its check, and its index. The plain pass is the one of the longest array, whatever the places: `plain` is
+// put into `decode_by_index` only while that is its one caller.
+fn block_by_index(
+    octets: &[u8],
+    table: &[u32],
+    index: &[u8; 256],
+    tlve_start: u8,
+    option: bool,
+    rows: &mut [u32],
+    block: &mut [u8],
+) -> Decoded
+    requires { ⌜ Indexed (now table) (now index) × (firstBad (rowsOf (now table)) ≡ none) ⌝ }
+    ensures { λ r. ⌜ ReadsBlock (readingBlock (now (table .entry)) «tlve_start» option (now (octets .entry)) (now (rows .entry)) (now (block .entry))) r (now (rows .exit)) (now (block .exit)) ⌝ }
+{
+    if octets.len() > MOST_OCTETS {
+        return Decoded::TooLong;
+    }
+    let n = 4 * places(table);
+    if rows.len() < n {
+        return Decoded::NoRoom(Room::Rows);
+    }
+    if plain_many(octets, table, index, n, rows) {
+        return Decoded::Done(0, 0);
+    }
+    block_elements(octets, table, index, tlve_start, option, rows, block)
+}
+
+// By a lent table: the start number of the long form, and whether elements out of sequence are taken.
+pub fn decode_into_block(
+    octets: &[u8],
+    table: &[u32],
+    tlve_start: u8,
+    out_of_sequence: bool,
+    rows: &mut [u32],
+    block: &mut [u8],
+) -> Decoded
+    ensures { λ r. ⌜ ReadsBlock (readingBlock (now (table .entry)) «tlve_start» «out_of_sequence» (now (octets .entry)) (now (rows .entry)) (now (block .entry))) r (now (rows .exit)) (now (block .exit)) ⌝ }
+{
+    let mut index = [255u8; 256];
+    match check_and_index(table, &mut index) {
+        Checked::Passes => block_by_index(
+            octets,
+            table,
+            &index,
+            tlve_start,
+            out_of_sequence,
+            rows,
+            block,
+        ),
+        Checked::BadRow(k) => Decoded::BadTable(k),
+    }
+}
+
+// By table number, with that table's start number.
+pub fn decode_into_block_by(
+    number: u32,
+    octets: &[u8],
+    out_of_sequence: bool,
+    rows: &mut [u32],
+    block: &mut [u8],
+) -> Decoded
+    ensures { λ r. ⌜ ReadsBlock (readingBlockBy number «out_of_sequence» (now (octets .entry)) (now (rows .entry)) (now (block .entry))) r (now (rows .exit)) (now (block .exit)) ⌝ }
+{
+    let mut table = [0u32; 400];
+    let mut index = [255u8; 256];
+    match load(number, &mut table, &mut index) {
+        Loaded::Table(n) => block_by_index(
+            octets,
+            &table[..n],
+            &index,
+            TLVE_START,
+            out_of_sequence,
+            rows,
+            block,
+        ),
+        Loaded::NoTable => Decoded::NoTable,
+    }
+}
