@@ -14,14 +14,12 @@ use Rattle.definitions.specs.Basic.{pick, bit}
 use Rattle.definitions.specs.Rows.{Row, Form, half, fixed, tlv, tlv-e, rowsOf, rowAt, form, ieiOf, placeOf, firstBad}
 use Rattle.definitions.specs.Length.{header, whole, unknownForm, required}
 use Rattle.definitions.specs.Elements.{unknown, malformed, repeated, outOfSequence, Element, Met, meet, judged, taken, octetsOf, known, stranger, elements, parted}
-use Rattle.definitions.specs.Reading.{reading, readElements}
 use Rattle.definitions.proofs.Steps.{Frames, whole-frames, front-octets, front-first, Stands, strange, placed, Reads, end, more, reads, parts}
 use Rattle.definitions.proofs.RowLaws.{Bears, listed}
 use Rattle.definitions.proofs.FrameLaws.{iei-high, iei-low, whole-same}
 use Rattle.promises.specs.Room.{Readable, Enough}
 use Rattle.promises.specs.Condition3.{framedBy, Revalued, Changed, Aside, Moves, stays, falls, rises, Became, EachBecame, no-more, and-next, Condition3}
-use Rattle.promises.proofs.Room.{enough}
-use Rattle.promises.proofs.RoundTrip.{round-trip}
+use Rattle.promises.proofs.Matched.{matched}
 
 -- ---- the frame of a changed element
 
@@ -47,7 +45,7 @@ unknown-suits start x = go (leb 128 x) (leb start x) refl
     go false false e = let h = leb-false 128 x e in record { low = λ l. omega arith; high = λ l. absurd (omega arith) }
 
 -- a front that is short only where nothing is left behind it has the header of the whole
-take-front : (h n : ℕ) (s : List ℕ) → (n < h → length s ≤ n) → take h (take n s) ≡ take h s
+pub take-front : (h n : ℕ) (s : List ℕ) → (n < h → length s ≤ n) → take h (take n s) ≡ take h s
 take-front zero n s k = refl
 take-front (suc h) zero [] k = refl
 take-front (suc h) zero (x ∷ s) k = absurd (omega (arith, k (omega arith)))
@@ -245,7 +243,6 @@ module _ (t : List Row) (start : ℕ) (option : Bool) (b : List ℕ) (passes : f
       record { elements′ = i .element′ ∷ j .elements′; read = more (i .stands) r′; each = and-next (i .became) (j .each) }
 
 pub condition3 : Condition3
-unfolding readElements
 condition3 table start option a b es l set output h p k c o n =
     let t : List Row = rowsOf table in
     let e : length b ≡ length a = changed-length t start es a b c in
@@ -253,5 +250,4 @@ condition3 table start option a b es l set output h p k c o n =
     let q : parted t start option b ≡ elements (r .elements′) = parts t start option (r .read) in
     let h′ : Readable table b = record { passes = h .passes; short = rw e (h .short) } in
     let k′ : Enough table b l = record { rows = k .rows; kept = rw e (k .kept); order = rw e (k .order) } in
-    let d : reading table start option b l .said .number ≡ 0 = rw (enough table start option b l (r .elements′) h′ k′ q) in
-    record { elements′ = r .elements′; decodes = q; done = d; each = r .each; written = round-trip table start option b l set output o d (rw e n) }
+    matched table start option b l set output h′ k′ o (rw e n) q (r .each)

@@ -8,9 +8,10 @@ use lib.ListN.{length, getD, take, drop}
 use Rattle.definitions.specs.Rows.{Row, Form, rowsOf, rowAt, form}
 use Rattle.definitions.specs.Length.{header, unknownForm}
 use Rattle.definitions.specs.Elements.{Verdict, accepted, unknown, malformed, repeated, outOfSequence, Element, elements, parted}
-use Rattle.definitions.specs.Reading.{Lent, reading}
+use Rattle.definitions.specs.Reading.{Lent}
 use Rattle.promises.specs.Room.{Readable, Enough}
-use Rattle.promises.specs.RoundTrip.{AreOctets, writtenBack, gives}
+use Rattle.promises.specs.RoundTrip.{AreOctets}
+use Rattle.promises.specs.Matched.{Matched}
 
 -- ---- "Change value octets of any elements, with every IEI and length kept; where an element's first octet is 0x80 or more,
 -- its value is the low four bits and only these change."
@@ -69,16 +70,11 @@ pub data EachBecame (b : List ℕ) : List Element → List Element → Type 0 wh
 
 -- ---- the whole
 
--- what is promised of the changed part b, read with the same start number and option:
-pub record Kept (table : List ℕ) (start : ℕ) (option : Bool) (es : List Element) (b : List ℕ) (l : Lent) (set output : List ℕ) : Type 0 where
-  -- "by the definitions the changed part .. decodes too", and reading it is done
-  pub elements′ : List Element
-  pub decodes : parted (rowsOf table) start option b ≡ elements elements′
-  pub done : reading table start option b l .said .number ≡ 0
-  -- "each unchanged element keeps ..; a changed one can only move .."
-  pub each : EachBecame b es elements′
-  -- "writing the untouched result .. gives exactly the changed octets"
-  pub written : writtenBack table b (reading table start option b l) set output ≡ gives b output
+-- what is promised of the changed part b, read with the same start number and option: "by the definitions the changed part ..
+-- decodes too", and reading it is done; "each unchanged element keeps ..; a changed one can only move .."; "writing the untouched
+-- result .. gives exactly the changed octets"
+abbrev pub Kept : List ℕ → ℕ → Bool → List Element → List ℕ → Lent → List ℕ → List ℕ → Type 0
+Kept table start option es b l set output = Matched table start option b l set output (EachBecame b es)
 
 -- a is the part, es its elements, b the changed part; l is lent to reading, set is the room for set octets, of which none
 -- are used, and output is lent to writing
