@@ -6,6 +6,7 @@ use mathlib.Core.Option.{Option, none, some}
 use lib.ListN.{length, set}
 use Rattle.definitions.specs.Basic.{Answer, answer}
 use Rattle.definitions.specs.Reading.{Read}
+use Rattle.definitions.specs.Block.{ReadBlock}
 use Rattle.definitions.specs.Values.{Edited}
 use Rattle.definitions.specs.Writing.{Wrote}
 use Rattle.definitions.specs.Findings.{Noted}
@@ -38,6 +39,12 @@ pub record ReadSays (r : Read) (number : ℕ) (before after rows kept order : Li
   pub rows-are : rows ≡ r .rows
   pub kept-is : kept ≡ r .kept
   pub order-is : order ≡ r .order
+
+-- the same of a reading into one block
+pub record BlockSays (r : ReadBlock) (number : ℕ) (before after rows block : List ℕ) : Type 0 where
+  pub says : Says (r .said) number before after
+  pub rows-are : rows ≡ r .rows
+  pub block-is : block ≡ r .block
 
 -- the same of an edit: number and values, rows and set octets
 pub record EditSays (e : Edited) (number : ℕ) (before after rows set : List ℕ) : Type 0 where

@@ -1,5 +1,6 @@
 // Each answer as document 01's number, which is returned, and its values in five lent places: how many there are, then the
 // values in document 01's order. The places behind them stay as they were.
+use checking::PartCheck;
 use edits::Edited;
 use elements::element::State;
 use elements::next::NextElement;
@@ -21,10 +22,13 @@ use reading::decode::Room;
 use rows::check::Checked;
 use rows::index::Place;
 use values::show::Shown;
+use why::Fault;
+use why::Why;
 use writing::encode::Encoded;
 use writing::encode::Which;
 ghost use mathlib.Core.Path.{_≡_};
 ghost use mathlib.Core.List.{[], _∷_};
+ghost use Rattle.checking.specs.Checks.{partCheckAs};
 ghost use Rattle.findings.specs.Findings.{logAs, foundAs};
 ghost use Rattle.definitions.specs.Basic.{answer};
 ghost use Rattle.definitions.specs.Logs.{orderEntry};
@@ -35,6 +39,7 @@ ghost use Rattle.order.specs.Order.{placedAs, entryAs};
 ghost use Rattle.reading.specs.Decodes.{roomAs, decodedAs};
 ghost use Rattle.values.specs.Shows.{shownAs};
 ghost use Rattle.rows.specs.Answers.{checkedAs, placeAs};
+ghost use Rattle.why.specs.Whys.{faultAs, whyAs};
 ghost use Rattle.writing.specs.Encodes.{whichAs, encodedAs};
 ghost use Rattle.answers.specs.Mandated.{usedNotes, notesPut, briefAs, MandatedSays};
 ghost use Rattle.answers.specs.Nexts.{stateNumbers, verdictNumber, NextSays};
@@ -62,16 +67,6 @@ fn two(number: u32, a: u64, b: u64, values: &mut [u64; 5]) -> u32
     values[0] = 2;
     values[1] = a;
     values[2] = b;
-    number
-}
-
-fn three(number: u32, a: u64, b: u64, c: u64, values: &mut [u64; 5]) -> u32
-    ensures { λ r. ⌜ Says (answer number (a ∷ b ∷ c ∷ [])) r (now (values .entry)) (now (values .exit)) ⌝ }
-{
-    values[0] = 3;
-    values[1] = a;
-    values[2] = b;
-    values[3] = c;
     number
 }
 
@@ -208,17 +203,38 @@ pub fn decoded_said(decoded: Decoded, values: &mut [u64; 5]) -> u32
     }
 }
 
+pub fn part_checked_said(checked: PartCheck, values: &mut [u64; 5]) -> u32
+    ensures { λ r. ⌜ Says (partCheckAs checked) r (now (values .entry)) (now (values .exit)) ⌝ }
+{
+    match checked {
+        PartCheck::Accepted => none(0, values),
+        PartCheck::Offends(at) => one(29, at as u64, values),
+        PartCheck::CutShort(start, x, left, missing) => four(
+            1,
+            start as u64,
+            x as u64,
+            left as u64,
+            missing as u64,
+            values,
+        ),
+        PartCheck::TooLong => none(3, values),
+        PartCheck::BadTable(row) => one(4, row as u64, values),
+        PartCheck::NoTable => none(5, values),
+    }
+}
+
 pub fn shown_said(shown: Shown, values: &mut [u64; 5]) -> u32
     ensures { λ r. ⌜ Says (shownAs shown) r (now (values .entry)) (now (values .exit)) ⌝ }
 {
     match shown {
         Shown::Absent => none(0, values),
-        Shown::Half(x) => one(0, x as u64, values),
-        Shown::Value(row) => three(
+        Shown::Half(x, iei) => two(0, x as u64, iei as u64, values),
+        Shown::Value(row) => four(
             0,
             row.source as u64,
             row.start as u64,
             row.len as u64,
+            row.iei as u64,
             values,
         ),
         Shown::BadTable(row) => one(4, row as u64, values),
@@ -238,6 +254,7 @@ pub fn edited_said(edited: Edited, values: &mut [u64; 5]) -> u32
         Edited::BadTable(row) => one(4, row as u64, values),
         Edited::TooLong => none(3, values),
         Edited::NoRoom => one(2, 1, values),
+        Edited::MalformedLog => one(11, 1, values),
         Edited::Malformed => one(11, 3, values),
         Edited::Unfit(place) => one(10, place as u64, values),
         Edited::NoSet(need) => one(12, need as u64, values),
@@ -416,5 +433,40 @@ pub fn next_said(next: NextElement, state: &mut [u64; 4], values: &mut [u64; 5])
         NextElement::End => none(0, values),
         NextElement::TooLong => none(3, values),
         NextElement::BadTable(row) => one(4, row as u64, values),
+    }
+}
+
+// The number of a fault.
+fn fault_number(fault: Fault) -> u64
+    ensures { λ r. ⌜ r ≡ faultAs fault ⌝ }
+{
+    match fault {
+        Fault::CutShort => 1,
+        Fault::UnderLeast => 2,
+        Fault::KindBarred => 3,
+    }
+}
+
+pub fn why_said(why: Why, values: &mut [u64; 5]) -> u32
+    ensures { λ r. ⌜ Says (whyAs why) r (now (values .entry)) (now (values .exit)) ⌝ }
+{
+    match why {
+        Why::Accepted => one(0, 0, values),
+        Why::Unknown => one(0, 1, values),
+        Why::Malformed(fault) => two(0, 2, fault_number(fault), values),
+        Why::Repeated(at) => two(0, 3, at as u64, values),
+        Why::OutOfSequence(at) => two(0, 4, at as u64, values),
+        Why::NoElement => none(27, values),
+        Why::CutShort(start, x, left, missing) => four(
+            1,
+            start as u64,
+            x as u64,
+            left as u64,
+            missing as u64,
+            values,
+        ),
+        Why::TooLong => none(3, values),
+        Why::BadTable(row) => one(4, row as u64, values),
+        Why::NoTable => none(5, values),
     }
 }

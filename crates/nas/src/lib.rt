@@ -15,10 +15,14 @@ use answers::got_said;
 use answers::length_said;
 use answers::mandated_said;
 use answers::next_said;
+use answers::part_checked_said;
 use answers::place_said;
 use answers::pushed_said;
 use answers::shown_said;
+use answers::why_said;
 use answers::wrote_said;
+use checking::check_part;
+use checking::check_part_by;
 use edits::clear_place;
 use edits::set_place;
 use elements::element::State;
@@ -34,6 +38,8 @@ use mandatory::decode::decode_mandatory_ies;
 use mandatory_writing::by::encode_mandatory_ies_by;
 use mandatory_writing::encode::encode_mandatory_ies;
 use order::order_get;
+use reading::block::decode_into_block;
+use reading::block::decode_into_block_by;
 use reading::decode::decode_optional_ies;
 use reading::decode::decode_optional_ies_by;
 use rows::check::check_mandatory_table;
@@ -42,11 +48,15 @@ use rows::index::iei_index;
 use rows::index::place_of;
 use seen::Seen;
 use values::show::show;
+use why::why_set_aside;
+use why::why_set_aside_by;
 use writing::encode::encode_optional_ies;
 use writing::encode::encode_optional_ies_by;
 ghost use mathlib.Core.Path.{_≡_};
 ghost use mathlib.Core.Bool.{not};
 ghost use lib.Dec.{eqb};
+ghost use Rattle.definitions.specs.Block.{readingBlock, readingBlockBy};
+ghost use Rattle.definitions.specs.Checking.{checking, checkingBy};
 ghost use Rattle.definitions.specs.Findings.{finding};
 ghost use Rattle.definitions.specs.Length.{unknownLength, missing};
 ghost use Rattle.definitions.specs.Logs.{keptPush, keptCount, keptGet, keptClear, orderGet};
@@ -54,6 +64,7 @@ ghost use Rattle.definitions.specs.Mandatory.{mandatoryRowsOf, firstBadMandator
 ghost use Rattle.definitions.specs.Reading.{reading, readingBy};
 ghost use Rattle.definitions.specs.Rows.{rowsOf, firstBad, index as indexOf, placeIn};
 ghost use Rattle.definitions.specs.Values.{showing, setting, clearing};
+ghost use Rattle.definitions.specs.Why.{explaining, explainingBy};
 ghost use Rattle.definitions.specs.Writing.{writing, writingBy};
 ghost use Rattle.kept.specs.Kept.{usedOf};
 ghost use Rattle.reading.specs.Decodes.{lentOf};
@@ -61,7 +72,7 @@ ghost use Rattle.elements.specs.Nexts.{nextOf};
 ghost use Rattle.nas.specs.Entries.{orderPushBy};
 ghost use Rattle.answers.specs.Mandated.{MandatorySays};
 ghost use Rattle.answers.specs.Nexts.{stateBy, NextSays};
-ghost use Rattle.answers.specs.Says.{Says, ReadSays, EditSays, WriteSays, RowsWriteSays, FindingSays, checkAnswer, placeAnswer, lengthAnswer};
+ghost use Rattle.answers.specs.Says.{Says, ReadSays, BlockSays, EditSays, WriteSays, RowsWriteSays, FindingSays, checkAnswer, placeAnswer, lengthAnswer};
 
 // The length of an unknown element from the octets from its first octet on: 0 and the length, or 1, cut short, and the octets missing.
 #[no_mangle]
@@ -207,6 +218,100 @@ pub extern "C" fn nas_read_by(
     )
 }
 
+// The same by a lent table into one block: the kept log first, the order log directly behind it. 2 and 2 where the two together do
+// not fit; else as nas_read.
+#[no_mangle]
+pub extern "C" fn nas_read_block(
+    part: &[u8],
+    table: &[u32],
+    tlve_start: u8,
+    option: u8,
+    rows: &mut [u32],
+    block: &mut [u8],
+    values: &mut [u64; 5],
+) -> u32
+    ensures { λ r. ⌜ BlockSays (readingBlock (now (table .entry)) «tlve_start» (not (eqb option 0)) (now (part .entry)) (now (rows .entry)) (now (block .entry))) r (now (values .entry)) (now (values .exit)) (now (rows .exit)) (now (block .exit)) ⌝ }
+{
+    decoded_said(
+        decode_into_block(part, table, tlve_start, option != 0, rows, block),
+        values,
+    )
+}
+
+// The same by table number, as with nas_read_by.
+#[no_mangle]
+pub extern "C" fn nas_read_block_by(
+    number: u32,
+    part: &[u8],
+    option: u8,
+    rows: &mut [u32],
+    block: &mut [u8],
+    values: &mut [u64; 5],
+) -> u32
+    ensures { λ r. ⌜ BlockSays (readingBlockBy number (not (eqb option 0)) (now (part .entry)) (now (rows .entry)) (now (block .entry))) r (now (values .entry)) (now (values .exit)) (now (rows .exit)) (now (block .exit)) ⌝ }
+{
+    decoded_said(
+        decode_into_block_by(number, part, option != 0, rows, block),
+        values,
+    )
+}
+
+// Why the element of a number, from 0, came as it did. 0, and how it came: 0 accepted, 1 unknown, 2 malformed and its fault, 3
+// repeated and 4 out of sequence, each with the start of its ground; 4 and the first bad row; 3; 1, start, first octet, octets to the
+// end and octets missing; 27 where there is no such element.
+#[no_mangle]
+pub extern "C" fn nas_why(
+    part: &[u8],
+    table: &[u32],
+    tlve_start: u8,
+    option: u8,
+    element: usize,
+    values: &mut [u64; 5],
+) -> u32
+    ensures { λ r. ⌜ Says (explaining (now (table .entry)) «tlve_start» (not (eqb option 0)) (now (part .entry)) element) r (now (values .entry)) (now (values .exit)) ⌝ }
+{
+    why_said(
+        why_set_aside(part, table, tlve_start, option != 0, element),
+        values,
+    )
+}
+
+// The same by table number; 5 for a number without a table.
+#[no_mangle]
+pub extern "C" fn nas_why_by(
+    number: u32,
+    part: &[u8],
+    option: u8,
+    element: usize,
+    values: &mut [u64; 5],
+) -> u32
+    ensures { λ r. ⌜ Says (explainingBy number (not (eqb option 0)) (now (part .entry)) element) r (now (values .entry)) (now (values .exit)) ⌝ }
+{
+    why_said(why_set_aside_by(number, part, option != 0, element), values)
+}
+
+// Whether a part made by another program is accepted: 0; 4 and the first bad row; 3; 1, start, first octet, octets to the end and octets
+// missing; 29 and the start of the first element that offends.
+#[no_mangle]
+pub extern "C" fn nas_check_part(
+    part: &[u8],
+    table: &[u32],
+    tlve_start: u8,
+    values: &mut [u64; 5],
+) -> u32
+    ensures { λ r. ⌜ Says (checking (now (table .entry)) «tlve_start» (now (part .entry))) r (now (values .entry)) (now (values .exit)) ⌝ }
+{
+    part_checked_said(check_part(part, table, tlve_start), values)
+}
+
+// The same by table number.
+#[no_mangle]
+pub extern "C" fn nas_check_part_by(number: u32, part: &[u8], values: &mut [u64; 5]) -> u32
+    ensures { λ r. ⌜ Says (checkingBy number (now (part .entry))) r (now (values .entry)) (now (values .exit)) ⌝ }
+{
+    part_checked_said(check_part_by(number, part), values)
+}
+
 // The element at a state of four numbers: position, places met from 0 to 63 and from 64 to 127, highest place. 0, its length,
 // IEI, place or 255, and how it came, and the state is then behind it; at the end 0 and no value; 1, start, first octet,
 // octets to the end and octets missing; 4 and the first bad row; 3.
@@ -236,8 +341,8 @@ pub extern "C" fn nas_next(
     )
 }
 
-// The value of a place, by the rows that reading wrote or setting changed: 0 and its source, start and length, of a half octet
-// its four bits, of an absent place no value; 4 and the first bad row; 3; 2 and 1; 11 and 3; 10 and the place.
+// The value of a place, by the rows that reading wrote or setting changed: 0 and its source, start, length and IEI, of a half octet
+// its four bits and IEI, of an absent place no value; 4 and the first bad row; 3; 2 and 1; 11 and 3; 10 and the place.
 #[no_mangle]
 pub extern "C" fn nas_show<'a>(
     table: &[u32],
@@ -253,8 +358,8 @@ pub extern "C" fn nas_show<'a>(
     shown_said(show(table, rows, received, set, used, place), values)
 }
 
-// A value for a place, behind the set octets that are used: 0 and the set octets then used; 4 and the first bad row; 3; 2 and 1;
-// 11 and 3; 10 and the place; 12 and the set octets needed.
+// A value for a place, behind the set octets that are used, under the IEI that the order log gives the place: 0 and the set octets
+// then used; 4 and the first bad row; 3; 2 and 1; 11 and 1 or 3; 10 and the place; 12 and the set octets needed.
 #[no_mangle]
 pub extern "C" fn nas_set(
     table: &[u32],
@@ -262,14 +367,26 @@ pub extern "C" fn nas_set(
     received: &[u8],
     set: &mut [u8],
     used: usize,
+    order: &[u8],
+    order_used: usize,
     place: usize,
     value: &[u8],
     values: &mut [u64; 5],
 ) -> u32
-    ensures { λ r. ⌜ EditSays (setting (now (table .entry)) (now (rows .entry)) (now (received .entry)) (usedOf (now (set .entry)) used) place (now (value .entry))) r (now (values .entry)) (now (values .exit)) (now (rows .exit)) (now (set .exit)) ⌝ }
+    ensures { λ r. ⌜ EditSays (setting (now (table .entry)) (now (rows .entry)) (now (received .entry)) (usedOf (now (set .entry)) used) (usedOf (now (order .entry)) «order_used») place (now (value .entry))) r (now (values .entry)) (now (values .exit)) (now (rows .exit)) (now (set .exit)) ⌝ }
 {
     edited_said(
-        set_place(table, rows, received, set, used, place, value),
+        set_place(
+            table,
+            rows,
+            received,
+            set,
+            used,
+            order,
+            order_used,
+            place,
+            value,
+        ),
         values,
     )
 }
