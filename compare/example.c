@@ -1,7 +1,7 @@
 /* Reads the example parts of document 01 under table P through include/nas.h, by table number and by a lent table, and prints
  * what each gives: number and values, the values that places hold, with their rows, the order log and the kept log. Writes
- * each back, sets places as in document 01's examples of edits and writes that, and reads and writes the mandatory rows of a
- * registration request. */
+ * each back and checks it as a supplier's, sets places as in document 01's examples of edits and writes that, and reads and writes the
+ * mandatory rows of a registration request. */
 #include <stdio.h>
 #include <string.h>
 
@@ -9,12 +9,12 @@
 
 enum { PLACES = 5, ROOM = 64, MOST = 8 };
 
-static const uint32_t table_p[9 * PLACES] = {
-    1, 0xc0, 0,    0, 0, 0, 0, 0, 7,   /* 0: half octet */
-    1, 0x10, 0,    0, 0, 2, 0, 3, 255, /* 1: TLV */
-    1, 0x52, 0,    0, 0, 1, 2, 0, 255, /* 2: fixed, two octets */
-    2, 0x2f, 0x31, 0, 0, 2, 0, 2, 7,   /* 3: TLV, two IEIs */
-    1, 0x77, 0,    0, 0, 3, 0, 3, 255, /* 4: TLV-E */
+static const uint32_t table_p[10 * PLACES] = {
+    1, 0xc0, 0,    0, 0, 0, 0, 0, 1,     7,   /* 0: half octet */
+    1, 0x10, 0,    0, 0, 2, 0, 3, 257,   255, /* 1: TLV */
+    1, 0x52, 0,    0, 0, 1, 2, 0, 3,     255, /* 2: fixed, two octets */
+    2, 0x2f, 0x31, 0, 0, 2, 0, 2, 257,   7,   /* 3: TLV, two IEIs */
+    1, 0x77, 0,    0, 0, 3, 0, 3, 65538, 255, /* 4: TLV-E */
 };
 
 static const struct {
@@ -42,7 +42,7 @@ static const struct {
 static const uint8_t unset[ROOM];
 
 struct lent {
-    uint32_t rows[3 * PLACES];
+    uint32_t rows[4 * PLACES];
     uint8_t kept[ROOM], order[ROOM];
     uint64_t values[5];
 };
@@ -58,15 +58,16 @@ static void hex(const char *name, const uint8_t *octets, size_t len)
 /* The value of a place, by its row; nothing where it is absent. */
 static void show(const struct lent *a, const uint8_t *part, size_t len, size_t place)
 {
-    const uint32_t *row = a->rows + 3 * place;
+    const uint32_t *row = a->rows + 4 * place;
     uint64_t values[5];
-    uint32_t number = nas_show(table_p, 9 * PLACES, a->rows, 3 * PLACES, part, len, part, 0, 0, place, values);
+    uint32_t number = nas_show(table_p, 10 * PLACES, a->rows, 4 * PLACES, part, len, part, 0, 0, place, values);
     if (number != 0)
         printf("  place %zu: not shown, %u\n", place, (unsigned)number);
     if (row[0] == 0 || number != 0)
         return;
-    printf("  place %zu: source %u, start %u, length %u, ", place, (unsigned)row[0], (unsigned)row[1], (unsigned)row[2]);
-    if (table_p[9 * place + 5] == 0)
+    printf("  place %zu: source %u, start %u, length %u, IEI %02x, ", place, (unsigned)row[0], (unsigned)row[1], (unsigned)row[2],
+           (unsigned)row[3]);
+    if (table_p[10 * place + 5] == 0)
         printf("four bits: %llx\n", (unsigned long long)values[1]);
     else
         hex("value", part + values[2], (size_t)values[3]);
@@ -78,9 +79,9 @@ static uint32_t put(const struct lent *a, const uint8_t *part, size_t len, const
 {
     size_t kept = (size_t)a->values[1], order = (size_t)a->values[2];
     if (by_table)
-        return nas_write(table_p, 9 * PLACES, a->rows, 3 * PLACES, part, len, set, ROOM, used, a->kept, ROOM, kept, a->order,
+        return nas_write(table_p, 10 * PLACES, a->rows, 4 * PLACES, part, len, set, ROOM, used, a->kept, ROOM, kept, a->order,
                          ROOM, order, output, ROOM, values);
-    return nas_write_by(0, a->rows, 3 * PLACES, part, len, set, ROOM, used, a->kept, ROOM, kept, a->order, ROOM, order, output,
+    return nas_write_by(0, a->rows, 4 * PLACES, part, len, set, ROOM, used, a->kept, ROOM, kept, a->order, ROOM, order, output,
                         ROOM, values);
 }
 
@@ -122,13 +123,13 @@ static int edit(size_t i)
     uint8_t set[ROOM] = {0};
     uint64_t values[5];
     memset(&a, 0xee, sizeof a);
-    if (nas_read_by(0, part, len, 0, a.rows, 3 * PLACES, a.kept, ROOM, a.order, ROOM, a.values) != 0)
+    if (nas_read_by(0, part, len, 0, a.rows, 4 * PLACES, a.kept, ROOM, a.order, ROOM, a.values) != 0)
         return 0;
     hex("part", part, len);
     printf("  place %zu, ", place);
     hex("set to", edits[i].value, edits[i].value_len);
-    uint32_t number = nas_set(table_p, 9 * PLACES, a.rows, 3 * PLACES, part, len, set, ROOM, 0, place, edits[i].value,
-                              edits[i].value_len, values);
+    uint32_t number = nas_set(table_p, 10 * PLACES, a.rows, 4 * PLACES, part, len, set, ROOM, 0, a.order, ROOM,
+                              (size_t)a.values[2], place, edits[i].value, edits[i].value_len, values);
     if (number != 0) {
         printf("  refused %u: %llu\n", (unsigned)number, (unsigned long long)values[1]);
         return written(&a, part, len, set, 0);
@@ -136,7 +137,7 @@ static int edit(size_t i)
     size_t used = (size_t)values[1];
     int same = written(&a, part, len, set, used);
     printf("  place %zu cleared\n", place);
-    if (nas_clear(table_p, 9 * PLACES, a.rows, 3 * PLACES, part, len, set, ROOM, used, place, values) != 0)
+    if (nas_clear(table_p, 10 * PLACES, a.rows, 4 * PLACES, part, len, set, ROOM, used, place, values) != 0)
         return 0;
     return written(&a, part, len, set, used) && same;
 }
@@ -184,6 +185,22 @@ static void request(size_t i, uint8_t lenient)
         printf("  not written, %u\n", (unsigned)number);
 }
 
+/* Prints whether the part would be accepted from a supplier; whether both ways give the same. */
+static int checked(const uint8_t *part, size_t len)
+{
+    uint64_t values[2][5];
+    memset(values, 0xee, sizeof values);
+    uint32_t number = nas_check_part_by(0, part, len, values[0]);
+    uint32_t by_table = nas_check_part(part, len, table_p, 10 * PLACES, 0x70, values[1]);
+    if (number == 0)
+        printf("  checked: accepted\n");
+    else if (number == 29)
+        printf("  checked: 29 at %llu\n", (unsigned long long)values[0][1]);
+    else
+        printf("  checked: refused %u\n", (unsigned)number);
+    return number == by_table && memcmp(values[0], values[1], sizeof *values) == 0;
+}
+
 int main(void)
 {
     int differ = 0;
@@ -194,8 +211,8 @@ int main(void)
         /* all octets alike, so that both are the same where nothing is written */
         memset(&a, 0xee, sizeof a);
         memset(&b, 0xee, sizeof b);
-        uint32_t number = nas_read_by(0, part, len, parts[i].option, a.rows, 3 * PLACES, a.kept, ROOM, a.order, ROOM, a.values);
-        uint32_t by_table = nas_read(part, len, table_p, 9 * PLACES, 0x70, parts[i].option, b.rows, 3 * PLACES, b.kept, ROOM,
+        uint32_t number = nas_read_by(0, part, len, parts[i].option, a.rows, 4 * PLACES, a.kept, ROOM, a.order, ROOM, a.values);
+        uint32_t by_table = nas_read(part, len, table_p, 10 * PLACES, 0x70, parts[i].option, b.rows, 4 * PLACES, b.kept, ROOM,
                                      b.order, ROOM, b.values);
         if (number != by_table || memcmp(&a, &b, sizeof a) != 0)
             differ = 1;
@@ -214,6 +231,8 @@ int main(void)
             printf("  refused %u: %llu, %02llx, %llu, %llu missing\n", (unsigned)number, (unsigned long long)a.values[1],
                    (unsigned long long)a.values[2], (unsigned long long)a.values[3], (unsigned long long)a.values[4]);
         }
+        if (!checked(part, len))
+            differ = 1;
         printf("\n");
     }
     for (size_t i = 0; i < sizeof edits / sizeof *edits; i++) {

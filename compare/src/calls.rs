@@ -2,7 +2,7 @@
 
 use std::fmt::{self, Display, Formatter};
 
-use crate::interface::{Edited, Editing, Lent, Mandatory, Message, Side, State, Used, Values, Writing};
+use crate::interface::{Block, Edited, Editing, Lent, Mandatory, Message, Side, State, Used, Values, Writing};
 use crate::judge::Room;
 use crate::rows::{MANDATORY_WIDTH, PLACE, WIDTH};
 
@@ -21,17 +21,23 @@ pub enum Call {
     OrderGet { log: Vec<u8>, used: usize, k: usize },
     Read { part: Vec<u8>, table: Vec<u32>, tlve_start: u8, option: u8, room: Room },
     ReadBy { number: u32, part: Vec<u8>, option: u8, room: Room },
+    ReadBlock { part: Vec<u8>, table: Vec<u32>, tlve_start: u8, option: u8, rows: usize, block: usize },
+    ReadBlockBy { number: u32, part: Vec<u8>, option: u8, rows: usize, block: usize },
+    CheckPart { part: Vec<u8>, table: Vec<u32>, tlve_start: u8 },
+    CheckPartBy { number: u32, part: Vec<u8> },
     Next { part: Vec<u8>, table: Vec<u32>, tlve_start: u8, option: u8, state: State },
     Show { table: Vec<u32>, places: Places, place: usize },
     Write { table: Vec<u32>, filled: Filled, output: usize },
     WriteBy { number: u32, filled: Filled, output: usize },
-    Set { table: Vec<u32>, places: Places, place: usize, value: Vec<u8> },
+    Set { table: Vec<u32>, places: Places, order: Octets, place: usize, value: Vec<u8> },
     Clear { table: Vec<u32>, places: Places, place: usize },
     ReadMandatory { part: Vec<u8>, table: Vec<u32>, lenient: u8, rows: usize },
     ReadMandatoryBy { number: u32, part: Vec<u8>, lenient: u8, rows: usize },
     WriteMandatory { table: Vec<u32>, places: Places, output: usize },
     WriteMandatoryBy { number: u32, places: Places, output: usize },
     Findings { table: Vec<u32>, kept: Octets, order: Octets, findings: usize },
+    Why { part: Vec<u8>, table: Vec<u32>, tlve_start: u8, option: u8, element: usize },
+    WhyBy { number: u32, part: Vec<u8>, option: u8, element: usize },
 }
 
 /// Lent octets and how many of them are used.
@@ -85,6 +91,7 @@ impl Filled {
 pub enum Family {
     Pieces,
     Reading,
+    Checking,
     Stepping,
     Showing,
     Writing,
@@ -92,6 +99,7 @@ pub enum Family {
     ReadingRows,
     WritingRows,
     Finding,
+    Asking,
 }
 
 impl Family {
@@ -99,6 +107,7 @@ impl Family {
         match self {
             Family::Pieces => "pieces",
             Family::Reading => "readings",
+            Family::Checking => "checks of a part",
             Family::Stepping => "readings of one element",
             Family::Showing => "values shown",
             Family::Writing => "writings",
@@ -106,13 +115,14 @@ impl Family {
             Family::ReadingRows => "readings of mandatory rows",
             Family::WritingRows => "writings of mandatory rows",
             Family::Finding => "lists of findings",
+            Family::Asking => "verdicts with their ground",
         }
     }
 
     /// Whether a side has these calls.
     pub fn on(self, side: &dyn Side) -> bool {
         match self {
-            Family::Pieces | Family::Reading | Family::Stepping | Family::Showing => true,
+            Family::Pieces | Family::Reading | Family::Checking | Family::Stepping | Family::Showing | Family::Asking => true,
             Family::Writing => side.writing().is_some(),
             Family::Editing => side.editing().is_some(),
             Family::ReadingRows | Family::WritingRows => side.mandatory().is_some(),
@@ -159,7 +169,10 @@ fn lent_octets(count: usize) -> Vec<u8> {
 impl Call {
     pub fn family(&self) -> Family {
         match self {
-            Call::Read { .. } | Call::ReadBy { .. } => Family::Reading,
+            Call::Read { .. } | Call::ReadBy { .. } | Call::ReadBlock { .. } | Call::ReadBlockBy { .. } => {
+                Family::Reading
+            }
+            Call::CheckPart { .. } | Call::CheckPartBy { .. } => Family::Checking,
             Call::Next { .. } => Family::Stepping,
             Call::Show { .. } => Family::Showing,
             Call::Write { .. } | Call::WriteBy { .. } => Family::Writing,
@@ -167,6 +180,7 @@ impl Call {
             Call::ReadMandatory { .. } | Call::ReadMandatoryBy { .. } => Family::ReadingRows,
             Call::WriteMandatory { .. } | Call::WriteMandatoryBy { .. } => Family::WritingRows,
             Call::Findings { .. } => Family::Finding,
+            Call::Why { .. } | Call::WhyBy { .. } => Family::Asking,
             _ => Family::Pieces,
         }
     }
@@ -215,6 +229,20 @@ impl Call {
                     _ => unreachable!("only readings have room"),
                 }
             }
+            Call::ReadBlock { part, table, tlve_start, option, rows: places, block } => {
+                rows = lent_rows(*places);
+                logs[0] = lent_octets(*block);
+                let lent = Block { rows: &mut rows, block: &mut logs[0] };
+                side.read_block(part, table, *tlve_start, *option, lent, &mut values)
+            }
+            Call::ReadBlockBy { number, part, option, rows: places, block } => {
+                rows = lent_rows(*places);
+                logs[0] = lent_octets(*block);
+                let lent = Block { rows: &mut rows, block: &mut logs[0] };
+                side.read_block_by(*number, part, *option, lent, &mut values)
+            }
+            Call::CheckPart { part, table, tlve_start } => side.check_part(part, table, *tlve_start, &mut values),
+            Call::CheckPartBy { number, part } => side.check_part_by(*number, part, &mut values),
             Call::Next { part, table, tlve_start, option, state } => {
                 after = *state;
                 side.next(part, table, *tlve_start, *option, &mut after, &mut values)
@@ -231,7 +259,7 @@ impl Call {
                 logs[0] = lent_octets(*output);
                 writing(side).write_by(*number, filled.message(), &mut logs[0], &mut values)
             }
-            Call::Set { table, places, place, value } => {
+            Call::Set { table, places, order, place, value } => {
                 rows = places.rows.clone();
                 logs[0] = places.set.octets.clone();
                 let edited = Edited {
@@ -239,6 +267,7 @@ impl Call {
                     received: &places.received,
                     set: &mut logs[0],
                     used: places.set.used,
+                    order: order.lent(),
                     place: *place,
                 };
                 editing(side).set(table, edited, value, &mut values)
@@ -276,6 +305,12 @@ impl Call {
                 notes = lent_rows(*findings);
                 let side = side.findings().expect("a call is made on sides that have it");
                 side.findings(table, kept.lent(), order.lent(), &mut notes, &mut values)
+            }
+            Call::Why { part, table, tlve_start, option, element } => {
+                side.why(part, table, *tlve_start, *option, *element, &mut values)
+            }
+            Call::WhyBy { number, part, option, element } => {
+                side.why_by(*number, part, *option, *element, &mut values)
             }
         };
         Outcome { number, values, rows, notes, logs, state: after }
@@ -325,6 +360,19 @@ impl Display for Call {
             Call::ReadBy { number, part, option, room } => {
                 write!(f, "read_by {number} {} option {option} {room:?}", hex(part))
             }
+            Call::ReadBlock { part, table, tlve_start, option, rows, block } => write!(
+                f,
+                "read_block {} start {tlve_start:02x} option {option} rows {rows} block {block} table {}",
+                hex(part),
+                listed(table, WIDTH)
+            ),
+            Call::ReadBlockBy { number, part, option, rows, block } => {
+                write!(f, "read_block_by {number} {} option {option} rows {rows} block {block}", hex(part))
+            }
+            Call::CheckPart { part, table, tlve_start } => {
+                write!(f, "check_part {} start {tlve_start:#04x} table {}", hex(part), listed(table, WIDTH))
+            }
+            Call::CheckPartBy { number, part } => write!(f, "check_part_by {number} {}", hex(part)),
             Call::Next { part, table, tlve_start, option, state } => write!(
                 f,
                 "next {} start {tlve_start:02x} option {option} state {state:x?} table {}",
@@ -338,8 +386,8 @@ impl Display for Call {
                 write!(f, "write {filled} output {output} table {}", listed(table, WIDTH))
             }
             Call::WriteBy { number, filled, output } => write!(f, "write_by {number} {filled} output {output}"),
-            Call::Set { table, places, place, value } => {
-                write!(f, "set place {place} to {} in {places} table {}", hex(value), listed(table, WIDTH))
+            Call::Set { table, places, order, place, value } => {
+                write!(f, "set place {place} to {} in {places} order {order} table {}", hex(value), listed(table, WIDTH))
             }
             Call::Clear { table, places, place } => {
                 write!(f, "clear place {place} in {places} table {}", listed(table, WIDTH))
@@ -361,6 +409,15 @@ impl Display for Call {
             }
             Call::Findings { table, kept, order, findings } => {
                 write!(f, "findings kept {kept} order {order} findings {findings} table {}", listed(table, WIDTH))
+            }
+            Call::Why { part, table, tlve_start, option, element } => write!(
+                f,
+                "why {element} of {} start {tlve_start:02x} option {option} table {}",
+                hex(part),
+                listed(table, WIDTH)
+            ),
+            Call::WhyBy { number, part, option, element } => {
+                write!(f, "why_by {number} {element} of {} option {option}", hex(part))
             }
         }
     }

@@ -6,12 +6,12 @@ use crate::gen_mandatory;
 use crate::gen_tables;
 use crate::gen_writing;
 use crate::judge_mandatory;
-use crate::rows::{MANDATORY_WIDTH, MandatoryRow, PLACE, mandatory_rows_of};
+use crate::rows::{MANDATORY_WIDTH, MandatoryRow, VALUE, mandatory_rows_of};
 
 impl Driver {
     /// How a mandatory table is named in a call: by its number, or lent.
     fn read_rows(&mut self, number: Option<u32>, table: &[u32], part: Vec<u8>, lenient: u8) {
-        let rows = gen_writing::room(&mut self.random, PLACE * (table.len() / MANDATORY_WIDTH));
+        let rows = gen_writing::room(&mut self.random, VALUE * (table.len() / MANDATORY_WIDTH));
         self.check(match number {
             Some(number) => Call::ReadMandatoryBy { number, part, lenient, rows },
             None => Call::ReadMandatory { part, table: table.to_vec(), lenient, rows },

@@ -10,7 +10,7 @@ use crate::replay;
 use crate::rows::{MANDATORY_WIDTH, START, WIDTH};
 
 /// All the room that an example needs, and more.
-const PLENTY: Room = Room { rows: 3 * 40, kept: 400, order: 400 };
+const PLENTY: Room = Room { rows: 4 * 40, kept: 400, order: 400 };
 
 impl Driver {
     /// The examples, as the documents print them: of the Rust, and then of both sides.

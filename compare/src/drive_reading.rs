@@ -5,21 +5,28 @@ use crate::driver::{Driver, every};
 use crate::gen_parts::{self, Size};
 use crate::gen_tables;
 use crate::judge::{Model, Room};
-use crate::rows::{START, WIDTH};
+use crate::rows::{PLACE, START, WIDTH};
 
 impl Driver {
     /// A reading by a lent table, in room around what it needs.
     fn read(&mut self, model: &Model, table: &[u32], part: Vec<u8>, start: u8, option: u8) {
         let need = gen_parts::needed(model, model.read(&part, start, option != 0).ok().as_ref());
         let room = gen_parts::room(&mut self.random, need);
-        self.check(Call::Read { part, table: table.to_vec(), tlve_start: start, option, room });
+        let block = gen_parts::around(&mut self.random, need.kept + need.order);
+        let table = table.to_vec();
+        let again = (part.clone(), table.clone());
+        self.check(Call::Read { part, table, tlve_start: start, option, room });
+        let (part, table) = again;
+        self.check(Call::ReadBlock { part, table, tlve_start: start, option, rows: room.rows, block });
     }
 
     /// The same by number.
     fn read_by(&mut self, model: &Model, number: u32, part: Vec<u8>, option: u8) {
         let need = gen_parts::needed(model, model.read(&part, START, option != 0).ok().as_ref());
         let room = gen_parts::room(&mut self.random, need);
-        self.check(Call::ReadBy { number, part, option, room });
+        let block = gen_parts::around(&mut self.random, need.kept + need.order);
+        self.check(Call::ReadBy { number, part: part.clone(), option, room });
+        self.check(Call::ReadBlockBy { number, part, option, rows: room.rows, block });
     }
 
     /// Every part up to some octets over alphabets that meet every branch under table P.
@@ -55,9 +62,11 @@ impl Driver {
                 true => vec![self.random.octet(); 65_534 + self.random.below(4)],
                 false => gen_parts::any(&mut self.random, model.rows(), start, Size::Short),
             };
-            let rows = self.random.below(3 * (1 + bad.len() / WIDTH));
+            let rows = self.random.below(PLACE * (1 + bad.len() / WIDTH));
             let room = Room { rows, kept: self.random.below(40), order: self.random.below(40) };
-            self.check(Call::Read { part, table: bad, tlve_start: start, option: 0, room });
+            let block = room.kept + room.order;
+            self.check(Call::Read { part: part.clone(), table: bad.clone(), tlve_start: start, option: 0, room });
+            self.check(Call::ReadBlock { part, table: bad, tlve_start: start, option: 0, rows, block });
         }
     }
 
@@ -73,8 +82,9 @@ impl Driver {
             self.read_by(model, number as u32, part.clone(), option);
             if self.random.once_in(20) {
                 let number = self.random.pick(&[7, 8, 255, 256, 65_536, u32::MAX]);
-                let room = Room { rows: 99, kept: 400, order: 400 };
-                self.check(Call::ReadBy { number, part, option, room });
+                let room = Room { rows: 160, kept: 400, order: 400 };
+                self.check(Call::ReadBy { number, part: part.clone(), option, room });
+                self.check(Call::ReadBlockBy { number, part, option, rows: 160, block: 800 });
             }
         }
     }

@@ -6,7 +6,7 @@ use crate::examples;
 use crate::gen_parts::{self, Size};
 use crate::gen_tables;
 use crate::gen_writing;
-use crate::judge::{MOST_LOG, MOST_OCTETS, Model, kept_push};
+use crate::judge::{self, MOST_LOG, MOST_OCTETS, Model, kept_push};
 use crate::rows::{Form, PLACE, START, WIDTH};
 
 impl Driver {
@@ -43,13 +43,17 @@ impl Driver {
             let value = gen_writing::any_value(random, form);
             let room = gen_writing::room(random, value.len());
             let mut lent = filled.places.clone();
+            let mut order = filled.order.clone();
             if random.once_in(16) {
                 gen_writing::spoil_places(random, &mut lent);
+            }
+            if random.once_in(16) {
+                order = gen_writing::spoiled_logs(random, filled.clone()).order;
             }
             if lent.set.used == filled.places.set.used {
                 lent.set.octets.resize(lent.set.used + room, 0xa5);
             }
-            let right = self.check(Call::Set { table: table.to_vec(), places: lent, place, value });
+            let right = self.check(Call::Set { table: table.to_vec(), places: lent, order, place, value });
             if right.number == 0 {
                 let used = right.said()[0] as usize;
                 let [set, _] = right.logs;
@@ -97,7 +101,8 @@ impl Driver {
                 continue;
             };
             filled.places.set.octets = vec![0; 8];
-            let call = Call::Set { table: table.clone(), places: filled.places.clone(), place, value: value.to_vec() };
+            let (places, order) = (filled.places.clone(), filled.order.clone());
+            let call = Call::Set { table: table.clone(), places, order, place, value: value.to_vec() };
             let right = self.check(call.clone());
             self.expect(right.number == 0 && *right.said() == [value.len() as u64], &call);
             let [set, _] = right.logs;
@@ -116,8 +121,8 @@ impl Driver {
     pub fn every_order(&mut self) {
         let table = self.tables.optional[0].clone();
         let model = Model::new(&table);
-        let all = [1, 0, 1, 1, 1, 1, 1, 0, 2, 2, 0, 2, 1, 0, 0];
-        let some = [1, 2, 1, 0, 0, 0, 2, 0, 2, 0, 0, 0, 1, 1, 3];
+        let all = [1, 0, 1, 0, 1, 1, 1, 0, 1, 0, 2, 0, 2, 0, 2, 0, 1, 0, 0, 0];
+        let some = [1, 2, 1, 0, 0, 0, 0, 0, 2, 0, 2, 0, 0, 0, 0, 0, 1, 1, 3, 0];
         let received = vec![0xc2, 7, 8, 9];
         let kept = [vec![], vec![1, 0x90], vec![1, 0x90, 3, 0x10, 1, 0xaa]];
         let alphabet = [0, 1, 4, 5, 0x10, 0x2f, 0x31, 0x77, 0xc0, 0xc5];
@@ -125,9 +130,14 @@ impl Driver {
             let rows = match order.len() % 3 {
                 0 => all,
                 1 => some,
-                _ => [0; 15],
+                _ => [0; 20],
             };
-            let rows = if self.random.once_in(2) { rows } else { all };
+            let mut rows = if self.random.once_in(2) { rows } else { all };
+            // The IEI that the log gives each place, or now and then another.
+            judge::fill_ieis(model.rows(), &model.index(), order, &mut rows);
+            if self.random.once_in(8) {
+                rows[PLACE * 3 + 3] = self.random.pick(&[0, 0x2f, 0x31, 0x30]);
+            }
             let kept = kept[self.random.below(3)].clone();
             let set = Octets::all(vec![5, 6]);
             let filled = Filled {
@@ -160,7 +170,8 @@ impl Driver {
                 self.check(Call::Clear { table: bad.clone(), places: filled.places.clone(), place });
                 self.check(Call::Show { table: bad.clone(), places: filled.places.clone(), place });
                 let value = vec![1];
-                self.check(Call::Set { table: bad.clone(), places: filled.places.clone(), place, value });
+                let (places, order) = (filled.places.clone(), filled.order.clone());
+                self.check(Call::Set { table: bad.clone(), places, order, place, value });
             }
             let output = self.random.below(60);
             self.check(Call::Write { table: bad, filled, output });
@@ -236,14 +247,15 @@ impl Driver {
                 filled.places.set = Octets { octets: vec![9; set + behind], used: set };
                 let source = if received >= set { 1 } else { 2 };
                 let longest = if source == 1 { length } else { set.min(65_535) as u32 };
-                filled.places.rows[12..15].copy_from_slice(&[source, 0, longest]);
+                filled.places.rows[PLACE * 4..].copy_from_slice(&[source, 0, longest, 0x77]);
                 self.write(&model, &table, filled.clone());
                 self.write_by(&model, 0, filled.clone());
                 for length in [0, 1, 2, 255, octets - 1, octets, octets + 1] {
                     let mut places = filled.places.clone();
                     let room = self.random.pick(&[0, 1, length, length]);
                     places.set.octets.resize(places.set.used + room, 5);
-                    self.check(Call::Set { table: table.clone(), places, place: 4, value: vec![3; length] });
+                    let order = filled.order.clone();
+                    self.check(Call::Set { table: table.clone(), places, order, place: 4, value: vec![3; length] });
                 }
                 self.check(Call::Show { table: table.clone(), places: filled.places.clone(), place: 4 });
                 self.check(Call::Clear { table: table.clone(), places: filled.places, place: 4 });
@@ -261,7 +273,7 @@ impl Driver {
             // A place that is written at each entry: more octets than 32 bits count.
             filled.order = Octets { octets: [0, 0x77].repeat(MOST_LOG / 2 + 4), used: used - used % 2 };
             filled.places.received = vec![7; MOST_OCTETS];
-            filled.places.rows[..PLACE * 5].copy_from_slice(&[[0; 12].as_slice(), &[1, 0, 65_535]].concat());
+            filled.places.rows[..PLACE * 5].copy_from_slice(&[[0; 16].as_slice(), &[1, 0, 65_535, 0x77]].concat());
             self.check(Call::Write { table: table.clone(), filled: filled.clone(), output: 100 });
             filled.order.used = 2 * self.random.below(10);
             self.write_by(&model, 0, filled);

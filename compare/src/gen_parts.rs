@@ -170,12 +170,18 @@ pub fn needed(model: &Model, reading: Option<&Reading>) -> Room {
 }
 
 /// Room around what is needed: mostly exact or plenty, else one short or none.
-pub fn room(random: &mut Random, need: Room) -> Room {
-    let mut around = |need: usize| match random.below(12) {
+pub fn around(random: &mut Random, need: usize) -> usize {
+    match random.below(12) {
         0 => need.saturating_sub(1),
         1 => random.below(need + 1),
         2..6 => need,
         _ => need + 1 + random.below(8),
-    };
-    Room { rows: around(need.rows), kept: around(need.kept), order: around(need.order) }
+    }
+}
+
+/// The same for rows and both logs.
+pub fn room(random: &mut Random, need: Room) -> Room {
+    let rows = around(random, need.rows);
+    let kept = around(random, need.kept);
+    Room { rows, kept, order: around(random, need.order) }
 }

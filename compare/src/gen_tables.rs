@@ -1,7 +1,7 @@
 //! Tables that pass the check, and tables that were damaged.
 
 use crate::random::Random;
-use crate::rows::{MANDATORY_WIDTH, WIDTH, numbers};
+use crate::rows::{MANDATORY_WIDTH, WIDTH, most, numbers};
 
 /// Start numbers at the edges of the ranges of first octets.
 pub const STARTS: [u8; 14] = [0, 1, 0x0f, 0x10, 0x6f, 0x70, 0x71, 0x77, 0x78, 0x7e, 0x7f, 0x80, 0x81, 0xff];
@@ -10,7 +10,8 @@ pub fn start(random: &mut Random) -> u8 {
     if random.once_in(2) { random.pick(&STARTS) } else { random.octet() }
 }
 
-/// An optional table that passes the check: all forms, up to four IEIs a place, least lengths and sets at their edges.
+/// An optional table that passes the check: all forms, up to four IEIs a place, least lengths and sets at their edges. A greatest length
+/// is the most of the form, or the least where that is more, so that it refuses nothing.
 pub fn optional(random: &mut Random) -> Vec<u32> {
     let places = match random.below(12) {
         0 => 0,
@@ -32,7 +33,8 @@ pub fn optional(random: &mut Random) -> Vec<u32> {
         let aliases = if random.once_in(3) { random.below(4).min(spare) } else { 0 };
         let ieis: Vec<u32> = pool.drain(pool.len() - 1 - aliases..).collect();
         let code = if half { 0 } else { 1 + random.below(3) as u32 };
-        let mut row = numbers(&ieis, code, 0, least(random), set(random, half));
+        let least = least(random);
+        let mut row = numbers(&ieis, code, 0, [least, 0], set(random, half));
         // What a row does not use is ignored.
         for unused in &mut row[1 + ieis.len()..5] {
             *unused = random.pick(&[0, ieis[0], 0x80, 255, 256, u32::MAX]);
@@ -41,9 +43,24 @@ pub fn optional(random: &mut Random) -> Vec<u32> {
             1 => random.pick(&[0, 1, 2, 3, 6, 124, 125, 126, 127, 128, 254, 255]),
             _ => random.pick(&[0, 0, 1, 255, 256, u32::MAX]),
         };
+        row[8] = least.max(most(code, row[6]));
         table.extend(row);
     }
     table
+}
+
+/// The same table with other greatest lengths, from the least on: at the lengths of short values, at the edges, and one under the
+/// least, which is a bad row.
+pub fn greatest(random: &mut Random, table: &mut [u32]) {
+    for row in table.chunks_exact_mut(WIDTH) {
+        row[8] = match random.below(12) {
+            0 => row[8],
+            1 => 65_538,
+            2 => row[7],
+            3 if random.once_in(20) => row[7].wrapping_sub(1),
+            _ => (row[7] + random.below(8) as u32).min(65_538),
+        };
+    }
 }
 
 fn least(random: &mut Random) -> u32 {
@@ -158,7 +175,7 @@ pub fn too_many(random: &mut Random) -> (Vec<u32>, Vec<u32>) {
     let mut iei = 0;
     for _ in 0..127 + random.below(4) {
         let half = iei >= 0x80;
-        optional.extend(numbers(&[iei], if half { 0 } else { 2 }, 0, 0, if half { 65_535 } else { 255 }));
+        optional.extend(numbers(&[iei], if half { 0 } else { 2 }, 0, [0, 257], if half { 65_535 } else { 255 }));
         iei += if half { 16 } else { 1 };
     }
     let mut mandatory = Vec::new();

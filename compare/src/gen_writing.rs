@@ -5,7 +5,7 @@ use crate::gen_logs;
 use crate::judge::{self, MOST_LOG, MOST_OCTETS, Model};
 use crate::judge_writing;
 use crate::random::Random;
-use crate::rows::{Form, PLACE, Row};
+use crate::rows::{Form, PLACE, Row, VALUE};
 
 /// Used octets, and now and then others behind them.
 fn lent(random: &mut Random, content: Vec<u8>) -> Octets {
@@ -84,6 +84,19 @@ pub fn places(random: &mut Random, forms: &[Form], absent: usize) -> Places {
     places
 }
 
+/// Values as places: each row with the IEI that an order log gives its place.
+fn with_ieis(values: Places, rows: &[Row], order: &[u8]) -> Places {
+    let mut places = Places { rows: Vec::new(), ..values };
+    let (own, behind) = values.rows.split_at(VALUE * rows.len());
+    for row in own.chunks(VALUE) {
+        places.rows.extend(row);
+        places.rows.push(0);
+    }
+    judge::fill_ieis(rows, &judge::index_by(rows), order, &mut places.rows);
+    places.rows.extend(behind);
+    places
+}
+
 /// An entry of an order log: a place, an IEI that is that of none, or one of a kept element.
 fn entry(random: &mut Random, rows: &[Row], log: &mut Vec<u8>) {
     match random.below(8) {
@@ -127,7 +140,8 @@ pub fn made_up(random: &mut Random, rows: &[Row]) -> Filled {
     }
     let forms: Vec<Form> = rows.iter().map(|row| row.form).collect();
     let absent = random.pick(&[0, 1, 3, 7]);
-    Filled { places: places(random, &forms, absent), kept: lent(random, kept), order: lent(random, order) }
+    let places = with_ieis(places(random, &forms, absent), rows, &order);
+    Filled { places, kept: lent(random, kept), order: lent(random, order) }
 }
 
 /// A used count that is another.
@@ -155,7 +169,7 @@ fn spoil_row(random: &mut Random, places: &mut Places) {
     places.rows[at] = match random.below(4) {
         0 => places.rows[at].wrapping_add(1),
         1 => places.rows[at].wrapping_sub(1),
-        _ => random.pick(&[0, 1, 2, 3, 15, 256, received, set, received + 1, u32::MAX, 1 << 31]),
+        _ => random.pick(&[0, 1, 2, 3, 15, 0x2f, 0x31, 0xc0, 256, received, set, received + 1, u32::MAX, 1 << 31]),
     };
 }
 

@@ -13,6 +13,12 @@ pub struct Lent<'a> {
     pub order: &'a mut [u8],
 }
 
+/// What is lent to reading into one block.
+pub struct Block<'a> {
+    pub rows: &'a mut [u32],
+    pub block: &'a mut [u8],
+}
+
 /// Lent octets and how many of them are used.
 #[derive(Clone, Copy)]
 pub struct Used<'a> {
@@ -46,6 +52,18 @@ pub trait Side {
     fn order_get(&self, log: &[u8], used: usize, k: usize, values: &mut Values) -> u32;
     fn read(&self, part: &[u8], table: &[u32], tlve_start: u8, option: u8, lent: Lent<'_>, values: &mut Values) -> u32;
     fn read_by(&self, number: u32, part: &[u8], option: u8, lent: Lent<'_>, values: &mut Values) -> u32;
+    fn read_block(
+        &self,
+        part: &[u8],
+        table: &[u32],
+        tlve_start: u8,
+        option: u8,
+        lent: Block<'_>,
+        values: &mut Values,
+    ) -> u32;
+    fn read_block_by(&self, number: u32, part: &[u8], option: u8, lent: Block<'_>, values: &mut Values) -> u32;
+    fn check_part(&self, part: &[u8], table: &[u32], tlve_start: u8, values: &mut Values) -> u32;
+    fn check_part_by(&self, number: u32, part: &[u8], values: &mut Values) -> u32;
     fn next(
         &self,
         part: &[u8],
@@ -55,6 +73,16 @@ pub trait Side {
         state: &mut State,
         values: &mut Values,
     ) -> u32;
+    fn why(
+        &self,
+        part: &[u8],
+        table: &[u32],
+        tlve_start: u8,
+        option: u8,
+        element: usize,
+        values: &mut Values,
+    ) -> u32;
+    fn why_by(&self, number: u32, part: &[u8], option: u8, element: usize, values: &mut Values) -> u32;
     fn show(
         &self,
         table: &[u32],
@@ -98,6 +126,7 @@ pub struct Edited<'a> {
     pub received: &'a [u8],
     pub set: &'a mut [u8],
     pub used: usize,
+    pub order: Used<'a>,
     pub place: usize,
 }
 

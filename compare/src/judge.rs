@@ -1,4 +1,4 @@
-//! A model of document 01, written from its text alone: the table checks, the unknown length, both logs, reading, and the
+//! A model of documents 01 and 02, written from their text alone: the table checks, the unknown length, both logs, reading, and the
 //! refusals in their order. It judges what the Rust does not have; for what the Rust has, the oracle's answer is handed in.
 
 use crate::rows::{Form, MANDATORY_WIDTH, PLACE, Row, WIDTH, rows_of};
@@ -27,13 +27,14 @@ pub fn first_bad(table: &[u32]) -> Option<usize> {
 }
 
 fn good_row(row: &[u32], met: &mut [bool; 256]) -> bool {
-    let &[count, a, b, c, d, code, size, least, set] = row else {
+    let &[count, a, b, c, d, code, size, least, greatest, set] = row else {
         return false;
     };
     let ranges = (1..=4).contains(&count)
         && code <= 3
         && (code != 1 || size <= 255)
-        && least <= 65_538
+        && least <= greatest
+        && greatest <= 65_538
         && (1..=greatest_set(code == 0)).contains(&set);
     ranges
         && [a, b, c, d][..count as usize].iter().all(|&iei| {
@@ -75,7 +76,7 @@ pub fn first_bad_mandatory(table: &[u32]) -> Option<usize> {
 // ---- lengths ("Reading the optional part")
 
 /// The whole length of an element of a form; none where it is cut short.
-fn whole(form: Form, octets: &[u8]) -> Option<usize> {
+pub fn whole(form: Form, octets: &[u8]) -> Option<usize> {
     let octet = |k: usize| octets.get(k).map(|&octet| usize::from(octet));
     let length = match form {
         Form::Half => 1,
@@ -87,7 +88,7 @@ fn whole(form: Form, octets: &[u8]) -> Option<usize> {
 }
 
 /// The octets before the value; a half octet's value is its whole octet.
-fn header(form: Form) -> usize {
+pub fn header(form: Form) -> usize {
     match form {
         Form::Half => 0,
         Form::Fixed(_) => 1,
@@ -140,8 +141,12 @@ pub fn iei_of(first: u8) -> u8 {
 
 /// The index of a table that passes the check.
 pub fn index_of(table: &[u32]) -> [u8; 256] {
+    index_by(&rows_of(table))
+}
+
+pub fn index_by(rows: &[Row]) -> [u8; 256] {
     let mut index = [255; 256];
-    for (place, row) in rows_of(table).iter().enumerate() {
+    for (place, row) in rows.iter().enumerate() {
         for &iei in &row.ieis {
             index[usize::from(iei)] = place as u8;
         }
@@ -179,7 +184,7 @@ pub struct Cut {
 }
 
 impl Cut {
-    fn refusal(self) -> Answer {
+    pub fn refusal(self) -> Answer {
         answer(1, &[self.start, usize::from(self.first), self.octets, self.missing])
     }
 }
@@ -304,7 +309,24 @@ impl Model {
         if in_order {
             reading.order.clear();
         }
+        fill_ieis(&self.rows, &self.index, &reading.order, &mut reading.rows);
         Ok(reading)
+    }
+}
+
+/// The IEI of a place (document 02, item 9): the earliest that a well-formed order log gives it, or its first.
+pub fn iei_for(rows: &[Row], index: &[u8; 256], order: &[u8], place: usize) -> u32 {
+    let gives = |entry: &&[u8]| matches!(entry, [0, iei] if usize::from(index[usize::from(*iei)]) == place);
+    let logged = order_list(order).unwrap_or_default().into_iter().find(gives).map(|entry| entry[1]);
+    u32::from(logged.unwrap_or(rows[place].ieis[0]))
+}
+
+/// That of every present place, into its row.
+pub fn fill_ieis(rows: &[Row], index: &[u8; 256], order: &[u8], places: &mut [u32]) {
+    for place in 0..rows.len() {
+        if places[PLACE * place] != 0 {
+            places[PLACE * place + 3] = iei_for(rows, index, order, place);
+        }
     }
 }
 
@@ -326,6 +348,34 @@ pub fn next(
         vec![element.length, iei, element.place.unwrap_or(255), element.verdict as usize]
     };
     Ok(element.map_or(vec![], said))
+}
+
+/// Checking a part that another program made (document 02, item 8), with its checks in their order: 4, 3, 1, 29. An element offends that
+/// is not accepted, is not of a place above all before it, is not under its first IEI, or is longer than its row's greatest length.
+pub fn checking(table: &[u32], part: &[u8], start: u8) -> Result<(), Answer> {
+    if let Some(row) = first_bad(table) {
+        return Err(answer(4, &[row]));
+    }
+    if part.len() > MOST_OCTETS {
+        return Err(answer(3, &[]));
+    }
+    let model = Model::new(table);
+    let elements = model.elements(part, start, true).map_err(Cut::refusal)?;
+    let mut before = None;
+    for element in elements {
+        let good = element.place.is_some_and(|place| {
+            let row = &model.rows[place];
+            element.verdict == Verdict::Accepted
+                && before.is_none_or(|before| before < place)
+                && iei_of(part[element.start]) == row.ieis[0]
+                && element.length <= row.greatest
+        });
+        if !good {
+            return Err(answer(29, &[element.start]));
+        }
+        before = element.place;
+    }
+    Ok(())
 }
 
 /// How much was lent to reading: numbers of place rows, octets of both logs.
@@ -358,6 +408,21 @@ pub fn reading(
     }
     if room.order < reading.order.len() {
         return Err(answer(2, &[3]));
+    }
+    Ok(reading)
+}
+
+/// Reading into one block: 4, 3, 2 (1), 1, then 2 (2) where the two logs together do not fit.
+pub fn reading_block(
+    table: &[u32],
+    part: &[u8],
+    rows: usize,
+    block: usize,
+    read: impl FnOnce() -> Result<Reading, Cut>,
+) -> Result<Reading, Answer> {
+    let reading = reading(table, part, Room { rows, kept: usize::MAX, order: usize::MAX }, read)?;
+    if block < reading.kept.len() + reading.order.len() {
+        return Err(answer(2, &[2]));
     }
     Ok(reading)
 }

@@ -4,7 +4,7 @@
 use crate::interface::Used;
 use crate::judge::{Answer, MOST_OCTETS, answer, first_bad_mandatory, receivable};
 use crate::judge_writing::{contents, rows_well_formed};
-use crate::rows::{MANDATORY_WIDTH, MandatoryForm, MandatoryRow, PLACE, Place, mandatory_rows_of, place_row, value_of};
+use crate::rows::{MANDATORY_WIDTH, MandatoryForm, MandatoryRow, Place, VALUE, mandatory_rows_of, value_of, value_row};
 
 /// What the rows find in a part: the fault that stops them, as its number and row; the octets read, the rows, the notes.
 #[derive(Debug, Clone, Default, PartialEq, Eq)]
@@ -63,7 +63,7 @@ pub fn reading(table: &[u32], part: &[u8], room: usize) -> Result<Vec<MandatoryR
     if part.len() > MOST_OCTETS {
         return Err(answer(3, &[]));
     }
-    if room < PLACE * (table.len() / MANDATORY_WIDTH) {
+    if room < VALUE * (table.len() / MANDATORY_WIDTH) {
         return Err(answer(2, &[1]));
     }
     Ok(mandatory_rows_of(table))
@@ -80,7 +80,7 @@ pub struct FilledRows<'a> {
 impl<'a> FilledRows<'a> {
     /// A row and its octets.
     pub fn value(&self, row: usize) -> (Place, &'a [u8]) {
-        let place = place_row(self.rows, row);
+        let place = value_row(self.rows, row);
         (place, value_of(place, self.received, self.set).unwrap_or(&[]))
     }
 }
@@ -97,7 +97,7 @@ pub fn writing<'a>(
     }
     let (received, set) = contents(received, set)?;
     let table = mandatory_rows_of(table);
-    rows_well_formed(rows, table.len(), received, set, || Ok(()))?;
+    rows_well_formed(rows, (table.len(), VALUE), received, set, || Ok(()))?;
     let filled = FilledRows { table, rows, received, set };
     let absent = |row: usize| filled.value(row).0.source == 0;
     if (0..filled.table.len()).any(absent) {

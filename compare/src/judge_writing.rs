@@ -1,11 +1,11 @@
-//! The model of document 01, "Writing": an optional part from its place rows and both logs, setting and clearing a place, and
+//! The model of documents 01, "Writing", and 02, item 9: an optional part from its place rows and both logs, setting and clearing a place, and
 //! their refusals in their order.
 
 use std::rc::Rc;
 
 use crate::interface::{Message, Used};
-use crate::judge::{Answer, Log, MOST_LOG, MOST_OCTETS, Model, answer, first_bad, kept_list, order_list};
-use crate::rows::{Form, PLACE, Place, WIDTH, place_row, rows_of, value_of};
+use crate::judge::{Answer, Log, MOST_LOG, MOST_OCTETS, Model, answer, first_bad, iei_for, index_of, kept_list, order_list};
+use crate::rows::{Form, PLACE, Place, Row, WIDTH, place_row, rows_of, value_of, value_row};
 
 /// A message that passed its checks: of logs and set octets, those that are used.
 #[derive(Clone, Copy)]
@@ -41,20 +41,21 @@ pub fn logs_well_formed(kept: &[u8], order: &[u8]) -> Result<(), Answer> {
     }
 }
 
-/// Room for the rows of so many places, all of them well formed: refusals 2 (1) and 11 (3), the one before `between` and the
-/// other after it.
+/// Room for so many rows, each of so many numbers, all of them well formed: refusals 2 (1) and 11 (3), the one before `between`
+/// and the other after it.
 pub fn rows_well_formed(
     rows: &[u32],
-    places: usize,
+    (count, width): (usize, usize),
     received: &[u8],
     set: &[u8],
     between: impl FnOnce() -> Result<(), Answer>,
 ) -> Result<(), Answer> {
-    if rows.len() < PLACE * places {
+    if rows.len() < width * count {
         return Err(answer(2, &[1]));
     }
     between()?;
-    match (0..places).any(|place| malformed(place_row(rows, place), received, set)) {
+    let row = |k: usize| if width == PLACE { place_row(rows, k) } else { value_row(rows, k) };
+    match (0..count).any(|k| malformed(row(k), received, set)) {
         true => Err(answer(11, &[3])),
         false => Ok(()),
     }
@@ -63,10 +64,22 @@ pub fn rows_well_formed(
 fn malformed(place: Place, received: &[u8], set: &[u8]) -> bool {
     let ends_within = |octets: &[u8]| u64::from(place.start) + u64::from(place.length) <= octets.len() as u64;
     match place.source {
-        0 => place.start != 0 || place.length != 0,
+        0 => place.start != 0 || place.length != 0 || place.iei != 0,
         1 => !ends_within(received),
         2 => !ends_within(set),
         _ => true,
+    }
+}
+
+/// A present row with another IEI than the order log gives its place: refusal 11 (3).
+fn rows_agree(rows: &[u32], table: &[Row], index: &[u8; 256], order: &[u8]) -> Result<(), Answer> {
+    let agrees = |place: usize| {
+        let row = place_row(rows, place);
+        row.source == 0 || row.iei == iei_for(table, index, order, place)
+    };
+    match (0..table.len()).all(agrees) {
+        true => Ok(()),
+        false => Err(answer(11, &[3])),
     }
 }
 
@@ -96,7 +109,9 @@ pub fn writing<'a>(
 pub fn filled<'a>(model: &Model, message: Message<'a>) -> Result<Filled<'a>, Answer> {
     let (received, set) = contents(message.received, message.set)?;
     let (kept, order) = logs(message.kept, message.order)?;
-    rows_well_formed(message.rows, model.rows().len(), received, set, || logs_well_formed(kept, order))?;
+    let places = model.rows().len();
+    rows_well_formed(message.rows, (places, PLACE), received, set, || logs_well_formed(kept, order))?;
+    rows_agree(message.rows, model.rows(), &model.index(), order)?;
     let unfit = model.rows().iter().enumerate().position(|(place, row)| {
         let place = place_row(message.rows, place);
         value_of(place, received, set).is_some_and(|value| !fits(row.form, place.source == 1, value))
@@ -202,50 +217,61 @@ pub struct Edit<'a> {
 }
 
 /// The form of a place that passed the checks of an edit by which `more` octets are set: 4, 3, 2 (1), 11 (3), which is also for
-/// a place not in the table.
-fn editing(edit: Edit<'_>, more: usize) -> Result<Form, Answer> {
+/// a place not in the table. With an order log 3 is also for it, and 11 (1) and the agreement of every row with it stand before
+/// and behind the other 11 (3).
+fn editing(edit: Edit<'_>, more: usize, order: Option<Used<'_>>) -> Result<Form, Answer> {
     if let Some(row) = first_bad(edit.table) {
         return Err(answer(4, &[row]));
     }
     let (received, set) = contents(edit.received, edit.set)?;
+    let order = match order {
+        Some(order) => Some(content(order, MOST_LOG).ok_or_else(|| answer(3, &[]))?),
+        None => None,
+    };
     if set.len() + more > MOST_OCTETS {
         return Err(answer(3, &[]));
     }
-    rows_well_formed(edit.rows, edit.table.len() / WIDTH, received, set, || Ok(()))?;
+    rows_well_formed(edit.rows, (edit.table.len() / WIDTH, PLACE), received, set, || {
+        order.and_then(|order| Log::Order.malformed(order)).map_or(Ok(()), Err)
+    })?;
+    if let Some(order) = order {
+        rows_agree(edit.rows, &rows_of(edit.table), &index_of(edit.table), order)?;
+    }
     match edit.table.chunks(WIDTH).nth(edit.place) {
         Some(row) => Ok(rows_of(row)[0].form),
         None => Err(answer(11, &[3])),
     }
 }
 
-/// How many set octets are used after a place was set: the checks of an edit, then 10 for the new value, 12.
-pub fn setting(edit: Edit<'_>, value: &[u8]) -> Result<usize, Answer> {
-    if !fits(editing(edit, value.len())?, false, value) {
+/// How many set octets are used after a place was set, and its IEI: the checks of an edit, then 10 for the new value, 12.
+pub fn setting(edit: Edit<'_>, order: Used<'_>, value: &[u8]) -> Result<(usize, u32), Answer> {
+    if !fits(editing(edit, value.len(), Some(order))?, false, value) {
         return Err(answer(10, &[edit.place]));
     }
     let after = edit.set.used + value.len();
     if edit.set.octets.len() < after {
         return Err(answer(12, &[after]));
     }
-    Ok(after)
+    let order = &order.octets[..order.used];
+    Ok((after, iei_for(&rows_of(edit.table), &index_of(edit.table), order, edit.place)))
 }
 
 /// The checks of clearing.
 pub fn clearing(edit: Edit<'_>) -> Result<(), Answer> {
-    editing(edit, 0).map(|_| ())
+    editing(edit, 0, None).map(|_| ())
 }
 
 /// What a place shows: the checks of an edit, then 10 for that place. Of a half octet its four bits, of another value its
-/// source, start and length, of an absent place none.
+/// source, start and length, then the IEI; of an absent place none.
 pub fn showing(edit: Edit<'_>) -> Result<Vec<usize>, Answer> {
-    let form = editing(edit, 0)?;
+    let form = editing(edit, 0, None)?;
     let place = place_row(edit.rows, edit.place);
     let Some(value) = value_of(place, edit.received, edit.set.octets) else {
         return Ok(vec![]);
     };
     match (fits(form, place.source == 1, value), form) {
         (false, _) => Err(answer(10, &[edit.place])),
-        (true, Form::Half) => Ok(vec![usize::from(value[0] % 16)]),
-        (true, _) => Ok([place.source, place.start, place.length].map(|number| number as usize).to_vec()),
+        (true, Form::Half) => Ok(vec![usize::from(value[0] % 16), place.iei as usize]),
+        (true, _) => Ok([place.source, place.start, place.length, place.iei].map(|number| number as usize).to_vec()),
     }
 }

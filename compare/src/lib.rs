@@ -8,11 +8,13 @@ mod declared {
     //! The functions of libnas.a, as include/nas.h declares them.
     include!(concat!(env!("OUT_DIR"), "/declared.rs"));
 }
+mod drive_checking;
 mod drive_findings;
 mod drive_logs;
 mod drive_mandatory;
 mod drive_pieces;
 mod drive_reading;
+mod drive_why;
 mod drive_writing;
 pub mod driver;
 pub mod examples;
@@ -25,6 +27,7 @@ pub mod interface;
 pub mod judge;
 pub mod judge_findings;
 pub mod judge_mandatory;
+pub mod judge_why;
 pub mod judge_writing;
 #[cfg(feature = "linked")]
 mod linked;

@@ -1,11 +1,11 @@
 //! Our side: the C interface of libnas.a.
 
 use crate::declared::{
-    nas_check_mandatory_table, nas_check_table, nas_generic_ie_length, nas_iei_index, nas_kept_clear, nas_kept_count,
-    nas_kept_get, nas_kept_push, nas_next, nas_order_get, nas_order_push, nas_place_of, nas_read, nas_read_by,
-    nas_show,
+    nas_check_mandatory_table, nas_check_part, nas_check_part_by, nas_check_table, nas_generic_ie_length, nas_iei_index,
+    nas_kept_clear, nas_kept_count, nas_kept_get, nas_kept_push, nas_next, nas_order_get, nas_order_push, nas_place_of,
+    nas_read, nas_read_block, nas_read_block_by, nas_read_by, nas_show, nas_why, nas_why_by,
 };
-use crate::interface::{Editing, Findings, Lent, Mandatory, Side, State, Used, Values, Writing};
+use crate::interface::{Block, Editing, Findings, Lent, Mandatory, Side, State, Used, Values, Writing};
 
 /// The library. Each call hands on a slice as its pointer and its length, which is all that the interface asks for.
 pub struct Linked;
@@ -97,6 +97,59 @@ impl Side for Linked {
         }
     }
 
+    fn read_block(
+        &self,
+        part: &[u8],
+        table: &[u32],
+        tlve_start: u8,
+        option: u8,
+        lent: Block<'_>,
+        values: &mut Values,
+    ) -> u32 {
+        unsafe {
+            nas_read_block(
+                part.as_ptr(),
+                part.len(),
+                table.as_ptr(),
+                table.len(),
+                tlve_start,
+                option,
+                lent.rows.as_mut_ptr(),
+                lent.rows.len(),
+                lent.block.as_mut_ptr(),
+                lent.block.len(),
+                values.as_mut_ptr(),
+            )
+        }
+    }
+
+    fn read_block_by(&self, number: u32, part: &[u8], option: u8, lent: Block<'_>, values: &mut Values) -> u32 {
+        unsafe {
+            nas_read_block_by(
+                number,
+                part.as_ptr(),
+                part.len(),
+                option,
+                lent.rows.as_mut_ptr(),
+                lent.rows.len(),
+                lent.block.as_mut_ptr(),
+                lent.block.len(),
+                values.as_mut_ptr(),
+            )
+        }
+    }
+
+    fn check_part(&self, part: &[u8], table: &[u32], tlve_start: u8, values: &mut Values) -> u32 {
+        let (part_len, table_len) = (part.len(), table.len());
+        unsafe {
+            nas_check_part(part.as_ptr(), part_len, table.as_ptr(), table_len, tlve_start, values.as_mut_ptr())
+        }
+    }
+
+    fn check_part_by(&self, number: u32, part: &[u8], values: &mut Values) -> u32 {
+        unsafe { nas_check_part_by(number, part.as_ptr(), part.len(), values.as_mut_ptr()) }
+    }
+
     fn next(
         &self,
         part: &[u8],
@@ -119,6 +172,34 @@ impl Side for Linked {
                 values.as_mut_ptr(),
             )
         }
+    }
+
+    fn why(
+        &self,
+        part: &[u8],
+        table: &[u32],
+        tlve_start: u8,
+        option: u8,
+        element: usize,
+        values: &mut Values,
+    ) -> u32 {
+        let (part_len, table_len) = (part.len(), table.len());
+        unsafe {
+            nas_why(
+                part.as_ptr(),
+                part_len,
+                table.as_ptr(),
+                table_len,
+                tlve_start,
+                option,
+                element,
+                values.as_mut_ptr(),
+            )
+        }
+    }
+
+    fn why_by(&self, number: u32, part: &[u8], option: u8, element: usize, values: &mut Values) -> u32 {
+        unsafe { nas_why_by(number, part.as_ptr(), part.len(), option, element, values.as_mut_ptr()) }
     }
 
     fn show(

@@ -6,7 +6,7 @@ use crate::linked::Linked;
 
 impl Editing for Linked {
     fn set(&self, table: &[u32], edited: Edited<'_>, value: &[u8], values: &mut Values) -> u32 {
-        let Edited { rows, received, set, used, place } = edited;
+        let Edited { rows, received, set, used, order, place } = edited;
         unsafe {
             nas_set(
                 table.as_ptr(),
@@ -18,6 +18,9 @@ impl Editing for Linked {
                 set.as_mut_ptr(),
                 set.len(),
                 used,
+                order.octets.as_ptr(),
+                order.octets.len(),
+                order.used,
                 place,
                 value.as_ptr(),
                 value.len(),

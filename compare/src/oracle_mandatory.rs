@@ -5,7 +5,7 @@ use crate::common::{self, IeFault, NasError, Reader, Reading, nas_message};
 use crate::judge_mandatory::{FilledRows, RowsRead};
 use crate::oracle::{half_set, receivable};
 use crate::oracle_writing::{Framed, Half};
-use crate::rows::{MandatoryForm, MandatoryRow, PLACE};
+use crate::rows::{MandatoryForm, MandatoryRow, VALUE};
 
 /// The field of each row. The Rust names a fault by its field.
 const FIELDS: [&str; 32] = [
@@ -93,7 +93,7 @@ pub fn read_rows_into(
     let mut reading = if lenient { Reading::keeping(&mut noted.0) } else { Reading::strict() };
     let mut read = 0;
     let mut left = part;
-    for ((row, field), place) in rows.iter().zip(FIELDS).zip(places.chunks_exact_mut(PLACE)) {
+    for ((row, field), place) in rows.iter().zip(FIELDS).zip(places.chunks_exact_mut(VALUE)) {
         let decoded = common::decode_mandatory_ie(
             &mut left,
             field,
@@ -114,12 +114,12 @@ pub fn read_rows_into(
 
 /// The same with rows and notes of its own.
 pub fn read_rows(rows: &[MandatoryRow], part: &[u8], lenient: bool) -> RowsRead {
-    let mut places = vec![0; PLACE * rows.len()];
+    let mut places = vec![0; VALUE * rows.len()];
     let mut noted = Noted::default();
     let (read, fault) = read_rows_into(rows, part, lenient, &mut places, &mut noted);
     let refused = fault.map(|fault| number(&fault.0));
     if let Some((_, row)) = refused {
-        places.truncate(PLACE * row);
+        places.truncate(VALUE * row);
     }
     let notes = noted.0.iter().map(number).flat_map(|(number, row)| [row as u32, number]).collect();
     RowsRead { refused, read, rows: places, notes }

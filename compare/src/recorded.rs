@@ -14,7 +14,7 @@
 //! | Kind | Handed to the call | Recorded |
 //! |---|---|---|
 //! | 1 writing | table, places, used kept log, used order log, u32 lent octets of output | answer; string, the octets written |
-//! | 2 setting, then writing | table (always lent), places, u32 place, string value | answer; numbers, the rows after it; string, the set octets after it |
+//! | 2 setting, by the order log of the writing, then writing | table (always lent), places, u32 place, string value | answer; numbers, the rows after it; string, the set octets after it |
 //! | 3 clearing, then writing | table (always lent), places, u32 place | answer; numbers, the rows after it |
 //! | 4 mandatory reading | table, u8 lenient, u16 lent numbers of rows, string part | answer; numbers, the rows that were written; numbers, the notes |
 //! | 5 mandatory writing | table, places, u32 lent octets of output | answer; string, the octets written |
@@ -79,7 +79,7 @@ impl Writer {
         let (first, outcome) = steps[0];
         match first {
             Call::Write { .. } | Call::WriteBy { .. } => self.writing(first, outcome),
-            Call::Set { table, places, place, value } => {
+            Call::Set { table, places, place, value, .. } => {
                 self.edit(2, table, places, *place);
                 self.string(value);
                 self.answer(outcome);
@@ -312,11 +312,13 @@ impl Reader<'_> {
             let used = if expected.number == 0 { *expected.values.first()? as usize } else { places.set.used };
             after.set = Octets { octets, used };
         }
+        let behind = self.writing(None, table.clone(), after)?;
+        let Call::Write { filled: Filled { order, .. }, .. } = &behind.call else { unreachable!("a writing by a lent table") };
         let call = match value {
-            Some(value) => Call::Set { table: table.clone(), places, place, value },
+            Some(value) => Call::Set { table: table.clone(), places, order: order.clone(), place, value },
             None => Call::Clear { table: table.clone(), places, place },
         };
-        Some(vec![Step { call, expected }, self.writing(None, table, after)?])
+        Some(vec![Step { call, expected }, behind])
     }
 
     fn case(&mut self) -> Option<Vec<Step>> {

@@ -53,7 +53,7 @@ fn case(list: &mut Reader<'_>) -> Option<Recorded> {
     let count = list.number(1)?;
     let mut present = Vec::new();
     for _ in 0..count {
-        present.push((list.count(1)?, [1, list.number(2)? as u32, list.number(2)? as u32]));
+        present.push((list.count(1)?, [1, list.number(2)? as u32, list.number(2)? as u32, list.number(1)? as u32]));
     }
     Some(Recorded { call, number, values, present, logs: [list.string()?, list.string()?] })
 }

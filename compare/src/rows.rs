@@ -1,16 +1,17 @@
-//! Tables as they are lent. Optional: nine numbers a row, namely how many IEIs, four IEIs, the code of the form, the size of a
-//! fixed form, the least whole length and the set. Mandatory: the last four. The row of a place: source, start and length of its
-//! value. Table P and the six real tables by their numbers.
+//! Tables as they are lent. Optional: ten numbers a row, namely how many IEIs, four IEIs, the code of the form, the size of a
+//! fixed form, the least whole length, the greatest whole length and the set. Mandatory: four, namely code, size, least whole length
+//! and set. The row of a place: source, start and length of its value, and its IEI; a mandatory row's the first three. Table P and the six real tables by their numbers.
 
 use std::path::PathBuf;
 use std::process::exit;
 use std::rc::Rc;
 use std::{env, fs};
 
-/// How many numbers a row of an optional table has, a row of a mandatory one, and the row of a place.
-pub const WIDTH: usize = 9;
+/// How many numbers a row of an optional table has, a row of a mandatory one, the row of a place, and that of a mandatory value.
+pub const WIDTH: usize = 10;
 pub const MANDATORY_WIDTH: usize = 4;
-pub const PLACE: usize = 3;
+pub const PLACE: usize = 4;
+pub const VALUE: usize = 3;
 
 /// The start number of the long form for P and the six real tables.
 pub const START: u8 = 0x70;
@@ -29,6 +30,7 @@ pub struct Row {
     pub ieis: Vec<u8>,
     pub form: Form,
     pub least: usize,
+    pub greatest: usize,
     pub set: u32,
 }
 
@@ -45,7 +47,8 @@ pub fn rows_of(table: &[u32]) -> Vec<Row> {
                 _ => Form::TlvE,
             },
             least: row[7] as usize,
-            set: row[8],
+            greatest: row[8] as usize,
+            set: row[9],
         })
         .collect()
 }
@@ -90,12 +93,19 @@ pub struct Place {
     pub source: u32,
     pub start: u32,
     pub length: u32,
+    pub iei: u32,
 }
 
 /// The row of a place.
 pub fn place_row(rows: &[u32], place: usize) -> Place {
     let row = &rows[PLACE * place..];
-    Place { source: row[0], start: row[1], length: row[2] }
+    Place { source: row[0], start: row[1], length: row[2], iei: row[3] }
+}
+
+/// The row of a mandatory value, which has no IEI.
+pub fn value_row(rows: &[u32], row: usize) -> Place {
+    let row = &rows[VALUE * row..];
+    Place { source: row[0], start: row[1], length: row[2], iei: 0 }
 }
 
 /// The octets of a value, by its well-formed row; none of an absent one.
@@ -109,19 +119,29 @@ pub fn value_of<'a>(place: Place, received: &'a [u8], set: &'a [u8]) -> Option<&
 }
 
 /// The numbers of a row with these IEIs.
-pub fn numbers(ieis: &[u32], code: u32, size: u32, least: u32, set: u32) -> [u32; WIDTH] {
+pub fn numbers(ieis: &[u32], code: u32, size: u32, [least, greatest]: [u32; 2], set: u32) -> [u32; WIDTH] {
     let iei = |k: usize| ieis.get(k).copied().unwrap_or(0);
-    [ieis.len() as u32, iei(0), iei(1), iei(2), iei(3), code, size, least, set]
+    [ieis.len() as u32, iei(0), iei(1), iei(2), iei(3), code, size, least, greatest, set]
+}
+
+/// The most octets that an element of a form has.
+pub fn most(code: u32, size: u32) -> u32 {
+    match code {
+        0 => 1,
+        1 => 1 + size,
+        2 => 257,
+        _ => 65_538,
+    }
 }
 
 /// Table P of document 01.
 fn table_p() -> Vec<u32> {
     [
-        numbers(&[0xc0], 0, 0, 0, 7),
-        numbers(&[0x10], 2, 0, 3, 255),
-        numbers(&[0x52], 1, 2, 0, 255),
-        numbers(&[0x2f, 0x31], 2, 0, 2, 7),
-        numbers(&[0x77], 3, 0, 3, 255),
+        numbers(&[0xc0], 0, 0, [0, 1], 7),
+        numbers(&[0x10], 2, 0, [3, 257], 255),
+        numbers(&[0x52], 1, 2, [0, 3], 255),
+        numbers(&[0x2f, 0x31], 2, 0, [2, 257], 7),
+        numbers(&[0x77], 3, 0, [3, 65_538], 255),
     ]
     .concat()
 }
@@ -182,7 +202,8 @@ fn optional(column: &[&str]) -> Option<[u32; WIDTH]> {
         "tlv-e" => (3, 0),
         fixed => (1, fixed.strip_prefix("fixed-")?.parse().ok()?),
     };
-    Some(numbers(&[iei], code, size, column.get(6)?.parse().ok()?, column.get(9)?.parse().ok()?))
+    let lengths = [column.get(6)?.parse().ok()?, column.get(7)?.parse().ok()?];
+    Some(numbers(&[iei], code, size, lengths, column.get(9)?.parse().ok()?))
 }
 
 /// The numbers of a mandatory row of the list.

@@ -5,10 +5,11 @@ use std::rc::Rc;
 
 use crate::cores::{ByModel, Core};
 use crate::interface::{
-    Edited, Editing, Findings, Lent, Mandatory, Message, Notes, Side, State, Used, Values, Writing,
+    Block, Edited, Editing, Findings, Lent, Mandatory, Message, Notes, Side, State, Used, Values, Writing,
 };
 use crate::judge::{self, Answer, Log, Model, Room, answer};
 use crate::judge_findings;
+use crate::judge_why;
 use crate::judge_mandatory;
 use crate::judge_writing::{self, Edit};
 use crate::rows::{PLACE, START, Tables};
@@ -171,6 +172,49 @@ impl<C: Core> Side for Judged<C> {
         }
     }
 
+    fn read_block(
+        &self,
+        part: &[u8],
+        table: &[u32],
+        tlve_start: u8,
+        option: u8,
+        lent: Block<'_>,
+        values: &mut Values,
+    ) -> u32 {
+        let read = judge::reading_block(table, part, lent.rows.len(), lent.block.len(), || {
+            C::read(&self.made(table).table, part, tlve_start, option != 0)
+        });
+        let said = match read {
+            Ok(reading) => {
+                let (kept, order) = (reading.kept.len(), reading.order.len());
+                lent.rows[..reading.rows.len()].copy_from_slice(&reading.rows);
+                lent.block[..kept].copy_from_slice(&reading.kept);
+                lent.block[kept..kept + order].copy_from_slice(&reading.order);
+                answer(0, &[kept, order])
+            }
+            Err(refusal) => refusal,
+        };
+        give(said, values)
+    }
+
+    fn read_block_by(&self, number: u32, part: &[u8], option: u8, lent: Block<'_>, values: &mut Values) -> u32 {
+        match self.numbers(number) {
+            Ok(table) => self.read_block(part, table, START, option, lent, values),
+            Err(refusal) => give(refusal, values),
+        }
+    }
+
+    fn check_part(&self, part: &[u8], table: &[u32], tlve_start: u8, values: &mut Values) -> u32 {
+        asked(judge::checking(table, part, tlve_start).map(|()| vec![]), values)
+    }
+
+    fn check_part_by(&self, number: u32, part: &[u8], values: &mut Values) -> u32 {
+        match self.numbers(number) {
+            Ok(table) => self.check_part(part, table, START, values),
+            Err(refusal) => give(refusal, values),
+        }
+    }
+
     fn next(
         &self,
         part: &[u8],
@@ -190,6 +234,25 @@ impl<C: Core> Side for Judged<C> {
             *state = [after.at as u64, met as u64, (met >> 64) as u64, after.highest as u64];
         }
         asked(said, values)
+    }
+
+    fn why(
+        &self,
+        part: &[u8],
+        table: &[u32],
+        tlve_start: u8,
+        option: u8,
+        element: usize,
+        values: &mut Values,
+    ) -> u32 {
+        asked(judge_why::why(table, part, tlve_start, option != 0, element), values)
+    }
+
+    fn why_by(&self, number: u32, part: &[u8], option: u8, element: usize, values: &mut Values) -> u32 {
+        match self.numbers(number) {
+            Ok(table) => self.why(part, table, START, option, element, values),
+            Err(refusal) => give(refusal, values),
+        }
     }
 
     fn show(
@@ -245,10 +308,10 @@ impl<C: Core> Writing for Judged<C> {
 
 impl<C: Core> Editing for Judged<C> {
     fn set(&self, table: &[u32], edited: Edited<'_>, value: &[u8], values: &mut Values) -> u32 {
-        let Edited { rows, received, set, used, place } = edited;
+        let Edited { rows, received, set, used, order, place } = edited;
         let edit = Edit { table, rows, received, set: Used { octets: set, used }, place };
-        let said = judge_writing::setting(edit, value).map(|after| {
-            rows[PLACE * place..][..PLACE].copy_from_slice(&[2, used as u32, value.len() as u32]);
+        let said = judge_writing::setting(edit, order, value).map(|(after, iei)| {
+            rows[PLACE * place..][..PLACE].copy_from_slice(&[2, used as u32, value.len() as u32, iei]);
             set[used..after].copy_from_slice(value);
             vec![after]
         });

@@ -3,7 +3,7 @@
 use std::time::{Duration, Instant};
 
 use crate::calls::{Call, Filled, Places};
-use crate::rows::{MANDATORY_WIDTH, PLACE, WIDTH};
+use crate::rows::{MANDATORY_WIDTH, PLACE, VALUE, WIDTH};
 
 /// A list without `count` units from `at` on, each of `width`.
 fn drop_units<T>(items: &mut Vec<T>, width: usize, at: usize, count: usize) {
@@ -24,14 +24,14 @@ impl Places {
         vec![self.set.octets.len(), self.received.len()]
     }
 
-    /// Octets from `at` on go, and values behind them begin as much earlier.
-    fn drop_at(&mut self, list: usize, at: usize, count: usize) {
+    /// Octets from `at` on go, and values behind them begin as much earlier, by rows of so many numbers.
+    fn drop_at(&mut self, numbers: usize, list: usize, at: usize, count: usize) {
         match list {
             0 => drop_used(&mut self.set.octets, &mut self.set.used, at, count),
             _ => drop_units(&mut self.received, 1, at, count),
         }
         let source = if list == 0 { 2 } else { 1 };
-        for row in self.rows.chunks_exact_mut(PLACE) {
+        for row in self.rows.chunks_exact_mut(numbers) {
             if row[0] == source && row[1] as usize >= at + count {
                 row[1] -= count as u32;
             }
@@ -40,8 +40,9 @@ impl Places {
 
     /// Rows of a table go with those of their places.
     fn drop_rows(&mut self, table: &mut Vec<u32>, width: usize, at: usize, count: usize) {
+        let numbers = if width == WIDTH { PLACE } else { VALUE };
         drop_units(table, width, at, count);
-        drop_units(&mut self.rows, PLACE, at, count);
+        drop_units(&mut self.rows, numbers, at, count);
     }
 }
 
@@ -54,7 +55,7 @@ impl Filled {
         match list {
             2 => drop_used(&mut self.kept.octets, &mut self.kept.used, at, count),
             3 => drop_used(&mut self.order.octets, &mut self.order.used, at, count),
-            _ => self.places.drop_at(list, at, count),
+            _ => self.places.drop_at(PLACE, list, at, count),
         }
     }
 }
@@ -70,14 +71,21 @@ impl Call {
             Call::KeptPush { log, data, .. } => vec![data.len(), log.len()],
             Call::KeptCount { log, .. } | Call::KeptGet { log, .. } | Call::KeptClear { log, .. } => vec![log.len()],
             Call::OrderPush { log, .. } | Call::OrderGet { log, .. } => vec![log.len()],
-            Call::Read { part, table, .. } | Call::Next { part, table, .. } => {
+            Call::Read { part, table, .. }
+            | Call::ReadBlock { part, table, .. }
+            | Call::CheckPart { part, table, .. }
+            | Call::Next { part, table, .. }
+            | Call::Why { part, table, .. } => {
                 vec![part.len(), table.len().div_ceil(WIDTH)]
             }
-            Call::ReadBy { part, .. } => vec![part.len()],
+            Call::ReadBy { part, .. }
+            | Call::ReadBlockBy { part, .. }
+            | Call::CheckPartBy { part, .. }
+            | Call::WhyBy { part, .. } => vec![part.len()],
             Call::Write { table, filled, .. } => [filled.lengths(), vec![table.len().div_ceil(WIDTH)]].concat(),
             Call::WriteBy { filled, .. } => filled.lengths(),
-            Call::Set { table, places, value, .. } => {
-                [places.lengths(), vec![table.len().div_ceil(WIDTH), value.len()]].concat()
+            Call::Set { table, places, order, value, .. } => {
+                [places.lengths(), vec![table.len().div_ceil(WIDTH), value.len(), order.octets.len()]].concat()
             }
             Call::Clear { table, places, .. } | Call::Show { table, places, .. } => {
                 [places.lengths(), vec![table.len().div_ceil(WIDTH)]].concat()
@@ -109,19 +117,30 @@ impl Call {
             | Call::KeptClear { log, used }
             | Call::OrderPush { log, used, .. }
             | Call::OrderGet { log, used, .. } => drop_used(log, used, at, count),
-            Call::Read { table, .. } | Call::Next { table, .. } if list == 1 => drop_units(table, WIDTH, at, count),
-            Call::Read { part, .. } | Call::ReadBy { part, .. } | Call::Next { part, .. } => {
-                drop_units(part, 1, at, count)
-            }
-            Call::Write { filled, .. } | Call::WriteBy { filled, .. } if list < 4 => filled.drop_at(list, at, count),
-            Call::Set { places, .. }
-            | Call::Clear { places, .. }
-            | Call::Show { places, .. }
-            | Call::WriteMandatory { places, .. }
-            | Call::WriteMandatoryBy { places, .. }
-                if list < 2 =>
+            Call::Read { table, .. }
+            | Call::ReadBlock { table, .. }
+            | Call::CheckPart { table, .. }
+            | Call::Next { table, .. }
+            | Call::Why { table, .. }
+                if list == 1 =>
             {
-                places.drop_at(list, at, count)
+                drop_units(table, WIDTH, at, count)
+            }
+            Call::Read { part, .. }
+            | Call::ReadBy { part, .. }
+            | Call::ReadBlock { part, .. }
+            | Call::ReadBlockBy { part, .. }
+            | Call::CheckPart { part, .. }
+            | Call::CheckPartBy { part, .. }
+            | Call::Next { part, .. }
+            | Call::Why { part, .. }
+            | Call::WhyBy { part, .. } => drop_units(part, 1, at, count),
+            Call::Write { filled, .. } | Call::WriteBy { filled, .. } if list < 4 => filled.drop_at(list, at, count),
+            Call::Set { places, .. } | Call::Clear { places, .. } | Call::Show { places, .. } if list < 2 => {
+                places.drop_at(PLACE, list, at, count)
+            }
+            Call::WriteMandatory { places, .. } | Call::WriteMandatoryBy { places, .. } if list < 2 => {
+                places.drop_at(VALUE, list, at, count)
             }
             Call::Write { table, filled: Filled { places, .. }, .. } => places.drop_rows(table, WIDTH, at, count),
             Call::WriteBy { .. } | Call::WriteMandatoryBy { .. } => {}
@@ -132,6 +151,7 @@ impl Call {
             Call::Findings { table, .. } => drop_units(table, WIDTH, at, count),
             Call::WriteMandatory { table, places, .. } => places.drop_rows(table, MANDATORY_WIDTH, at, count),
             Call::Set { value, .. } if list == 3 => drop_units(value, 1, at, count),
+            Call::Set { order, .. } if list == 4 => drop_used(&mut order.octets, &mut order.used, at, count),
             Call::Set { table, places, .. } | Call::Clear { table, places, .. } | Call::Show { table, places, .. } => {
                 places.drop_rows(table, WIDTH, at, count)
             }

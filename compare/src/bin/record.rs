@@ -284,6 +284,7 @@ impl Recorder {
             self.list.push(place as u8);
             self.list.extend((rows[place][1] as u16).to_be_bytes());
             self.list.extend((rows[place][2] as u16).to_be_bytes());
+            self.list.push(rows[place][3] as u8);
         }
         let used = |k: usize| if done { outcome.said()[k] as usize } else { 0 };
         let (kept, order) = (&outcome.logs[0][..used(0)], &outcome.logs[1][..used(1)]);

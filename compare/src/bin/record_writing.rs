@@ -15,7 +15,7 @@ use compare::gen_parts::{self, Size};
 use compare::judge::{MOST_LOG, Model, first_bad, kept_push};
 use compare::random::Random;
 use compare::recorded::Writer;
-use compare::rows::{Form, MANDATORY_WIDTH, PLACE, START, Tables, WIDTH, mandatory_rows_of, numbered_or_exit};
+use compare::rows::{Form, MANDATORY_WIDTH, PLACE, START, Tables, VALUE, WIDTH, mandatory_rows_of, numbered_or_exit};
 use compare::sides::Judged;
 use compare::{gen_mandatory, gen_tables, gen_writing, judge_mandatory};
 
@@ -154,7 +154,8 @@ impl Recorder {
             if let Some(mut filled) = read {
                 filled.places.set.octets = vec![0xa5; 4];
                 let places = filled.places.clone();
-                self.edit(&filled, &Call::Set { table: table.clone(), places, place, value: value.to_vec() });
+                let (order, value) = (filled.order.clone(), value.to_vec());
+                self.edit(&filled, &Call::Set { table: table.clone(), places, order, place, value });
             }
         }
     }
@@ -164,7 +165,7 @@ impl Recorder {
         let table = self.tables.optional[0].clone();
         let long = |length: usize| {
             let mut filled = Filled::default();
-            filled.places.rows = [vec![0; 4 * PLACE], vec![1, 0, length as u32]].concat();
+            filled.places.rows = [vec![0; 4 * PLACE], vec![1, 0, length as u32, 0x77]].concat();
             filled.places.received = vec![7; length];
             filled
         };
@@ -192,7 +193,8 @@ impl Recorder {
                 set: Octets { octets: vec![9; octets.min(65_535)], used: octets },
             };
             let filled = Filled { places: places.clone(), ..Filled::default() };
-            let call = Call::Set { table: table.clone(), places, place: 4, value: vec![1; value] };
+            let order = Octets::default();
+            let call = Call::Set { table: table.clone(), places, order, place: 4, value: vec![1; value] };
             self.edit(&filled, &call);
         }
     }
@@ -258,7 +260,8 @@ impl Recorder {
             let room = gen_writing::room(&mut self.random, value.len());
             places.set.octets.resize(places.set.used + room, 0xa5);
         }
-        self.edit(&filled, &Call::Set { table: lent, places, place, value });
+        let order = filled.order.clone();
+        self.edit(&filled, &Call::Set { table: lent, places, order, place, value });
     }
 
     fn numbered_table(&mut self) {
@@ -293,7 +296,7 @@ impl Recorder {
             return;
         }
         let lenient = self.random.pick(&[0, 1, 255]);
-        let room = gen_writing::room(&mut self.random, PLACE * rows.len());
+        let room = gen_writing::room(&mut self.random, VALUE * rows.len());
         let filled = judge_mandatory::writing(&table, &places.rows, &places.received, places.set.lent());
         let need = filled.map_or(4, |filled| judge_mandatory::write_rows(&filled).len());
         let output = gen_writing::room(&mut self.random, need);

@@ -80,7 +80,7 @@ fn after_numbers(at: usize, n: usize) -> usize {
 }
 
 fn after_places(at: usize, n: u8) -> usize {
-    after(at, 5 * (n as usize))
+    after(at, 6 * (n as usize))
 }
 
 fn counted(list: &[u8], at: usize) -> usize {
@@ -237,16 +237,18 @@ fn put_zero(rows: &mut [u32], at: usize) {
 
 // Whether a place is the recorded one; its numbers are then made 0.
 fn place_is(list: &[u8], at: usize, rows: &mut [u32]) -> bool {
-    let place = 3 * (octet(list, at) as usize);
+    let place = 4 * (octet(list, at) as usize);
     let is_start = cell(rows, place + 1) as usize == counted(list, after(at, 1));
     let is_len = cell(rows, place + 2) as usize == counted(list, after(at, 3));
+    let is_iei = cell(rows, place + 3) == octet(list, after(at, 5)) as u32;
     if cell(rows, place) != 1 {
         return false;
     }
     put_zero(rows, place);
     put_zero(rows, place + 1);
     put_zero(rows, place + 2);
-    is_start && is_len
+    put_zero(rows, place + 3);
+    is_start && is_len && is_iei
 }
 
 // Whether the present places are the recorded ones; their numbers are then 0.
@@ -258,7 +260,7 @@ fn places_are(list: &[u8], at: usize, rows: &mut [u32]) -> bool {
         if !place_is(list, p, rows) {
             return false;
         }
-        p = after(p, 5);
+        p = after(p, 6);
         k += 1;
     }
     true
@@ -267,17 +269,17 @@ fn places_are(list: &[u8], at: usize, rows: &mut [u32]) -> bool {
 // How many place rows the table of a case has, in numbers.
 fn table_rows(c: Case) -> usize {
     if c.table == LENT_TABLE {
-        return c.cells / 3;
+        return 4 * (c.cells / 10);
     }
     let table = c.table;
     match table {
-        0 => 15,
-        1 => 96,
-        2 => 117,
-        3 => 18,
-        4 => 12,
-        5 => 39,
-        6 => 48,
+        0 => 20,
+        1 => 128,
+        2 => 156,
+        3 => 24,
+        4 => 16,
+        5 => 52,
+        6 => 64,
         _ => 0,
     }
 }
@@ -488,7 +490,7 @@ fn print_counts(cases: u32, counts: &[u32]) {
 fn run_all(list: &[u8]) {
     let mut octets = [0u8; 65536];
     let mut table = [0u32; 64];
-    let mut rows = [0u32; 128];
+    let mut rows = [0u32; 192];
     let mut kept = [0u8; 70000];
     let mut order = [0u8; 70000];
     let mut counts = [0u32; 8];

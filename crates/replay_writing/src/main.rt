@@ -57,6 +57,7 @@ struct Setting {
     said_at: usize,
     rows_after_at: usize,
     set_after_at: usize,
+    order_at: usize,
 }
 
 fn octet(list: &[u8], at: usize) -> u8 {
@@ -188,6 +189,8 @@ fn setting_at(list: &[u8], at: usize) -> Setting {
     let place_at = used_end(list, set_at);
     let said_at = string_end(list, after(place_at, 4));
     let rows_after_at = answer_end(list, said_at);
+    let set_after_at = numbers_end(list, rows_after_at);
+    let kept_at = string_end(list, set_after_at);
     Setting {
         rows_at: rows_at,
         received_at: received_at,
@@ -195,7 +198,8 @@ fn setting_at(list: &[u8], at: usize) -> Setting {
         place_at: place_at,
         said_at: said_at,
         rows_after_at: rows_after_at,
-        set_after_at: numbers_end(list, rows_after_at),
+        set_after_at: set_after_at,
+        order_at: used_end(list, kept_at),
     }
 }
 
@@ -462,7 +466,7 @@ fn run_numbers<'a>(
     order: &[u8],
 ) -> bool {
     let mut table = [0u32; 64];
-    let mut rows = [0u32; 128];
+    let mut rows = [0u32; 192];
     let mut output = [0u8; 66000];
     get_numbers(list, after(c.table_at, 1), &mut table);
     get_numbers(list, c.rows_at, &mut rows);
@@ -629,6 +633,7 @@ fn edited_is(list: &[u8], at: usize, edited: Edited) -> bool {
         Edited::BadTable(row) => one_is(list, at, 4, row as u64),
         Edited::TooLong => none_is(list, at, 3),
         Edited::NoRoom => one_is(list, at, 2, 1),
+        Edited::MalformedLog => one_is(list, at, 11, 1),
         Edited::Malformed => one_is(list, at, 11, 3),
         Edited::Unfit(place) => one_is(list, at, 10, place as u64),
         Edited::NoSet(need) => one_is(list, at, 12, need as u64),
@@ -642,11 +647,23 @@ fn judge_setting(
     rows: &mut [u32],
     received: &[u8],
     set: &mut [u8],
+    order: &[u8],
     value: &[u8],
 ) -> bool {
     let set_used = used(list, e.set_at);
+    let order_used = used(list, e.order_at);
     let place = number(list, e.place_at);
-    let edited = set_place(table, rows, received, set, set_used, place, value);
+    let edited = set_place(
+        table,
+        rows,
+        received,
+        set,
+        set_used,
+        order,
+        order_used,
+        place,
+        value,
+    );
     let is_edited = edited_is(list, e.said_at, edited);
     let are_rows = numbers_are(list, e.rows_after_at, rows);
     let is_set = output_is(list, e.set_after_at, set);
@@ -661,6 +678,7 @@ fn set_fronts(
     rows: &mut [u32],
     received: &[u8],
     set: &mut [u8],
+    order: &[u8],
     value: &[u8],
 ) -> bool {
     let places = counted(list, e.rows_at);
@@ -681,18 +699,23 @@ fn set_fronts(
         &mut rows[..places],
         received,
         &mut set[..n],
+        order,
         value,
     )
 }
 
 fn run_setting(list: &[u8], at: usize, e: Setting) -> bool {
     let mut table = [0u32; 64];
-    let mut rows = [0u32; 128];
+    let mut rows = [0u32; 192];
     let mut received = [0u8; 256];
     let mut set = [0u8; 66000];
     let mut value = [0u8; 512];
+    let mut order = [0u8; 66000];
     let value_at = after(e.place_at, 4);
     if !(fits(list, e.received_at, 256) && fits(list, value_at, 512)) {
+        return false;
+    }
+    if !fits(list, e.order_at, 66000) {
         return false;
     }
     get_numbers(list, after(at, 2), &mut table);
@@ -700,6 +723,7 @@ fn run_setting(list: &[u8], at: usize, e: Setting) -> bool {
     get_string(list, e.received_at, &mut received);
     get_string(list, e.set_at, &mut set);
     get_string(list, value_at, &mut value);
+    get_string(list, e.order_at, &mut order);
     set_fronts(
         list,
         e,
@@ -708,6 +732,7 @@ fn run_setting(list: &[u8], at: usize, e: Setting) -> bool {
         &mut rows,
         part(&received, 0, string_len(list, e.received_at)),
         &mut set,
+        part(&order, 0, string_len(list, e.order_at)),
         part(&value, 0, string_len(list, value_at)),
     )
 }

@@ -69,9 +69,10 @@ pub fn read(table: &[u32], part: Vec<u8>) -> Filled {
     Filled { places, kept: Octets::all(reading.kept), order: Octets::all(reading.order) }
 }
 
-/// The message with a place set to a value.
-pub fn set(mut filled: Filled, place: usize, value: Vec<u8>) -> Filled {
-    filled.places.rows[PLACE * place..][..PLACE].copy_from_slice(&[2, 0, value.len() as u32]);
+/// The message with a place set to a value, one that its order log does not name.
+pub fn set(rows: &[Row], mut filled: Filled, place: usize, value: Vec<u8>) -> Filled {
+    let iei = u32::from(rows[place].ieis[0]);
+    filled.places.rows[PLACE * place..][..PLACE].copy_from_slice(&[2, 0, value.len() as u32, iei]);
     filled.places.set = Octets::all(value);
     filled
 }

@@ -46,20 +46,22 @@ pub fn values(sides: &Sides) -> Result<(), String> {
     let mut lines = Lines::new("values");
     for Input { name, number, filled, place, value } in inputs(&sides.tables.optional) {
         let table = &sides.tables.optional[number];
-        let mut places = filled.places;
+        let (mut places, order) = (filled.places, filled.order);
         places.set = Octets { octets: vec![0; value.len()], used: 0 };
-        let call = Call::Set { table: table.clone(), places: places.clone(), place, value: value.clone() };
+        let (lent, log) = (places.clone(), order.clone());
+        let call = Call::Set { table: table.clone(), places: lent, order: log, place, value: value.clone() };
         sides.done(&name, &call)?;
         sides.done(&name, &Call::Clear { table: table.clone(), places: places.clone(), place })?;
         sides.done(&name, &Call::Show { table: table.clone(), places: places.clone(), place })?;
 
         // Before each call the place is as it was read.
-        let row: [u32; PLACE] = places.rows[PLACE * place..][..PLACE].try_into().expect("three numbers");
+        let row: [u32; PLACE] = places.rows[PLACE * place..][..PLACE].try_into().expect("four numbers");
         let mut values = [0; 5];
         let (mut rows, mut set) = (places.rows.clone(), places.set.octets.clone());
         let setting = best_alone(&mut || {
             rows[PLACE * place..][..PLACE].copy_from_slice(&row);
-            let edited = Edited { rows: &mut rows, received: &places.received, set: &mut set, used: 0, place };
+            let (received, order) = (&places.received, order.lent());
+            let edited = Edited { rows: &mut rows, received, set: &mut set, used: 0, order, place };
             black_box(editing.set(black_box(table), edited, black_box(&value), &mut values));
         });
         lines.alone(&format!("{name}, a place set"), value.len(), way, setting);

@@ -35,8 +35,9 @@ fn messages(tables: &[Vec<u32>]) -> Vec<Written> {
         add(format!("{}, every third", NAMES[number]), number, read(table, third));
         add(format!("{}, every element", NAMES[number]), number, read(table, all.concat()));
         add(format!("{}, unknown between", NAMES[number]), number, read(table, unknown_between(&all)));
-        add(format!("{}, a place set", NAMES[number]), number, set(read(table, most.concat()), middle, new.clone()));
-        let edited = set(read(table, unknown_between(&most)), middle, new);
+        let edited = set(&rows, read(table, most.concat()), middle, new.clone());
+        add(format!("{}, a place set", NAMES[number]), number, edited);
+        let edited = set(&rows, read(table, unknown_between(&most)), middle, new);
         add(format!("{}, unknown, a place set", NAMES[number]), number, edited);
     }
     let rows = Model::new(&tables[1]).rows().to_vec();
@@ -44,7 +45,7 @@ fn messages(tables: &[Vec<u32>]) -> Vec<Written> {
     let long = |iei: u8| element(&rows[at(iei)], 20_000);
     add("long values".into(), 1, read(&tables[1], [long(0x70), long(0x7b), long(0x71)].concat()));
     let two = read(&tables[1], [long(0x70), long(0x71)].concat());
-    add("long values, one of them set".into(), 1, set(two, at(0x7b), value(&rows[at(0x7b)], 20_000)));
+    add("long values, one of them set".into(), 1, set(&rows, two, at(0x7b), value(&rows[at(0x7b)], 20_000)));
     let repeated = [long(0x70), long(0x70), long(0x70)].concat();
     add("long values, repeated".into(), 1, read(&tables[1], repeated));
     add("one unknown value".into(), 1, read(&tables[1], [vec![0x7a, 0xff, 0xfc], vec![7; 65_532]].concat()));

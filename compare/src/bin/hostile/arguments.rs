@@ -181,6 +181,8 @@ fn of_places(random: &mut Random, function: &str, tables: &Tables) -> Scene {
             let length = random.below(2 * part.len() + 2);
             scene.octets.insert(log, vec![0xa5; length]);
         }
+        let length = random.below(3 * part.len() + 2);
+        scene.octets.insert("block", vec![0xa5; length]);
     }
     let state = match random.once_in(2) {
         true => [0; 4],
