@@ -97,6 +97,34 @@ logs-checked order kept e = rw e (by (orderList order) (keptList kept) refl refl
     by (some ps) none p q = ((ps, p), q)
     by (some ps) (some es) p q = record { ps = ps; es = es; order-is = p; kept-is = q; octets-are = refl }
 
+-- the kept log alone
+pub record KeptIs (kept : List ℕ) (octets : ℕ) : Type 0 where
+  pub es : List (List ℕ)
+  pub kept-is : keptList kept ≡ some es
+  pub octets-are : octets ≡ length (concat es)
+
+-- so that two answers that are equal say the same
+told : Kept → ℕ
+told Kept.Malformed = 0
+told (Kept.Octets n) = suc n
+
+module _ (kept : List ℕ) where
+  pub kept-told : {n : ℕ} → Kept.Octets n ≡ keptOctets (keptList kept) → KeptIs kept n
+  unfolding keptOctets told
+  kept-told {n = n} e = by (keptList kept) refl e
+    where
+      by : (o : Option (List (List ℕ))) → keptList kept ≡ o → Kept.Octets n ≡ keptOctets o → KeptIs kept n
+      by none q z = let y = ap told z in absurd (omega arith)
+      by (some es) q z = let y = ap told z in record { es = es; kept-is = q; octets-are = omega arith }
+
+  pub kept-not : Kept.Malformed ≡ keptOctets (keptList kept) → keptList kept ≡ none
+  unfolding keptOctets told
+  kept-not e = by (keptList kept) e
+    where
+      by : (o : Option (List (List ℕ))) → Kept.Malformed ≡ keptOctets o → o ≡ none
+      by none z = refl
+      by (some es) z = let y = ap told z in absurd (omega arith)
+
 -- the octets of all elements are no more than those of the log
 module _ (kept : List ℕ) where
   few-from : (n at : ℕ) → length kept ≤ at + n → KeptAt kept at → at + length (concat (keptFrom kept at)) ≤ length kept

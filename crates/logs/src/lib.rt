@@ -41,7 +41,7 @@ pub fn order_malformed(order: &[u8]) -> bool
 }
 
 // A kept log measured to its end.
-fn kept_len(kept: &[u8]) -> Kept
+pub fn kept_len(kept: &[u8]) -> Kept
     ensures { λ r. ⌜ r ≡ keptOctets (keptList (now (kept .entry))) ⌝ }
 {
     let mut at = 0;

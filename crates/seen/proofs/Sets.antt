@@ -5,7 +5,7 @@ use native.Mathlib.Omega.{arith}
 use native.Mathlib.Nat.{add-mul, pow-suc, mod-lt, lt-of-lt-of-le}
 use mathlib.Core.Path.{_≡_, refl, ap, ap₂, sym, _∙_}
 use mathlib.Core.Bool.{Bool, true, false}
-use borrow.Author.Tests.{eqb-false, ne-eqb, lt-ltb, le-ltb}
+use borrow.Author.Tests.{eqb-true, eqb-false, eq-eqb, ne-eqb, lt-ltb, le-ltb}
 use Rattle.seen.specs.Seen.{setOf, seenOf, includingPlace}
 use Rattle.seen.specs.declared.Seen.{Seen}
 use lib.Dec.{eqb}
@@ -117,3 +117,16 @@ module _ (s : Seen) (l : s .low < 2 ^ 64) (k : ℕ) where
   pub with-past : 128 ≤ k → s ≡ seenOf (includingPlace k (setOf s))
   unfolding includingPlace
   with-past h = rw (le-ltb k 128 h) (seen-of (s .high) (s .low) l)
+
+-- ---- no bit
+
+-- without low bits the high ones decide
+pub none-high : (high low : ℕ) → low ≡ 0 → eqb high 0 ≡ eqb (high * 2 ^ 64 + low) 0
+none-high high low e = by (eqb high 0) refl
+  where
+    by : (b : Bool) → eqb high 0 ≡ b → b ≡ eqb (high * 2 ^ 64 + low) 0
+    by true q = let z = eqb-true high 0 q in sym (eq-eqb (high * 2 ^ 64 + low) 0 (omega arith))
+    by false q = let z = eqb-false high 0 q in sym (ne-eqb (high * 2 ^ 64 + low) 0 (λ y. z (omega arith)))
+
+pub not-none : (high low : ℕ) → (low ≡ 0 → ⊥) → false ≡ eqb (high * 2 ^ 64 + low) 0
+not-none high low h = sym (ne-eqb (high * 2 ^ 64 + low) 0 (λ y. h (omega arith)))

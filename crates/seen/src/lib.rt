@@ -1,6 +1,7 @@
 // The set of places met, a bit each in two numbers of 64 bits.
 ghost use mathlib.Core.Path.{_≡_};
 ghost use Prim.Native.Nat.{_<_};
+ghost use lib.Dec.{eqb};
 ghost use Rattle.definitions.specs.Basic.{bit};
 ghost use Rattle.definitions.specs.Elements.{including};
 ghost use Rattle.seen.specs.Seen.{setOf, seenOf, includingPlace};
@@ -27,6 +28,16 @@ fn with(set: u64, k: usize) -> u64
         return set;
     }
     set + (1 << k)
+}
+
+// Whether no place was met.
+pub fn seen_none(seen: Seen) -> bool
+    ensures { λ r. ⌜ r ≡ eqb (setOf seen) 0 ⌝ }
+{
+    if seen.low == 0 {
+        return seen.high == 0;
+    }
+    false
 }
 
 // Whether a place was met.

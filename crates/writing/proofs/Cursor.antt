@@ -17,6 +17,7 @@ use Rattle.definitions.specs.Logs.{Placed, knownIei, notKnown, ignored}
 use Rattle.definitions.specs.Writing.{Filled, elementAt, logged, addedFrom, below, notBelow, firsts, walked, written}
 use Rattle.definitions.proofs.RowLaws.{listed}
 use Rattle.definitions.proofs.LogSteps.{restOf, keptAfter}
+use Rattle.agreement.proofs.Agreeing.{no-bit}
 use Rattle.writing.specs.Walks.{addedIn, addedPiece, addedOctets, nextOf, knownPiece, knownPlace, pieceOf, placeAfter, leftOf}
 
 module _ (m : Filled) (s : ℕ) where
@@ -212,6 +213,16 @@ same-in s u k (suc n) h = rw (h k (omega arith), same-in s u (suc k) n (λ j l. 
 pub same-octets : (m : Filled) (s u k : ℕ) → ((j : ℕ) → j < k → bit j s ≡ bit j u) → addedOctets m s 0 k ≡ addedOctets m u 0 k
 unfolding addedOctets
 same-octets m s u k h = ap (firsts m) (same-in s u 0 (k - 0) (λ j l. h j (omega arith)))
+
+-- a set without places
+none-in : (k n : ℕ) → addedIn 0 k n ≡ []
+unfolding addedIn
+none-in k zero = refl
+none-in k (suc n) = rw (no-bit k) (none-in (suc k) n)
+
+pub none-added : (m : Filled) (s from to : ℕ) → s ≡ 0 → addedOctets m s from to ≡ []
+unfolding addedOctets firsts
+none-added m s from to e = rw (e, none-in from (to - from))
 
 -- the kept elements, the next one first
 pub next-rest : (ks : List (List ℕ)) → concat ks ≡ nextOf ks ++ concat (restOf ks)

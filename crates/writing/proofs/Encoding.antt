@@ -17,7 +17,7 @@ use Rattle.definitions.specs.Values.{placeWidth, valueAt, present, goodValue, a
 use Rattle.definitions.specs.Writing.{Filled, logged, written, unfit, octetsIn, octetsFor, writingChecks, Wrote, writing}
 use Rattle.definitions.proofs.WriteLaws.{unwritten, write-long, write-rows, write-order, write-kept, write-values, write-unfit, write-short, write-done, loggedLength, walked-length}
 use Rattle.definitions.proofs.Checks.{none-first, either-of}
-use Rattle.definitions.proofs.LogSteps.{keptFrom, KeptAt, orderFrom, OrderAt}
+use Rattle.definitions.proofs.LogSteps.{keptFrom, KeptAt}
 use Rattle.kept.specs.Kept.{usedOf}
 use Rattle.values.specs.Rows.{sourcesOf}
 use Rattle.agreement.specs.Agreed.{apartBy, Agreeing}
@@ -45,10 +45,6 @@ kept-begins kept e = record { inside = omega arith; formed = e ∙ ap (λ (o : O
 pub kept-is : (kept : List ℕ) {es : List (List ℕ)} → keptList kept ≡ some es → keptFrom kept 0 ≡ es
 unfolding keptFrom orEmpty
 kept-is kept e = ap orEmpty e
-
-pub order-stands : (order : List ℕ) {ps : List Placed} → orderList order ≡ some ps → OrderAt order 0
-unfolding orderFrom orEmpty
-order-stands order e = record { inside = omega arith; formed = e ∙ ap (λ (o : Option (List Placed)). some (orEmpty o)) (sym e) }
 
 pub order-begins : (order : List ℕ) {ps : List Placed} → orderList order ≡ some ps → orderList order ≡ some (orEmpty (orderList order))
 unfolding orEmpty

@@ -1,13 +1,13 @@
--- The places looked at one by one: those before are well formed and fit, and their added elements with those left take what all take.
--- Each step moves a place from what is left; the first that is malformed or does not fit decides.
-use Prim.Native.Nat.{ℕ, _+_, _-_, _*_, _≤_, _<_}
+-- The places looked at one by one: those before are well formed and fit, and their added elements with those left take what all take;
+-- or one before is the first that does not fit. Each step moves a place from what is left; a malformed one decides at once.
+use Prim.Native.Nat.{ℕ, _+_, _-_, _*_, _≤_, _<_, min}
 use native.Mathlib.Omega.{arith}
 use mathlib.Core.Path.{_≡_, refl, ap, sym, _∙_}
 use mathlib.Core.Bool.{Bool, true, false, _&&_, _||_, not}
-use borrow.Author.Tests.{eq-eqb, ne-eqb, eqb-true, eqb-false}
+use borrow.Author.Tests.{eq-eqb, ne-eqb, eqb-true, eqb-false, lt-ltb, le-ltb, ltb-false}
 use mathlib.Core.Option.{none, some}
 use lib.ListN.{length, length-append}
-use lib.Dec.{eqb}
+use lib.Dec.{eqb, ltb}
 use Rattle.definitions.specs.Basic.{pick, bit, isNone}
 use Rattle.definitions.specs.Elements.{including}
 use Rattle.definitions.specs.Rows.{firstIei}
@@ -18,7 +18,7 @@ use Rattle.seen.specs.Seen.{setOf, seenOf, includingPlace}
 use Rattle.values.proofs.Showing.{first-here, first-further, first-over}
 use Rattle.agreement.proofs.Agreeing.{no-bit}
 use Rattle.writing.specs.Walks.{addedIn, addedPiece, addedOctets}
-use Rattle.writing.specs.Sizes.{mostIe, addedTo, wrongAt, wrong, LookedAt, SurveyedBy}
+use Rattle.writing.specs.Sizes.{mostIe, addedTo, wrongAt, LookedAt, SurveyedBy}
 use Rattle.writing.specs.declared.sizes.Looked.{Looked}
 use Rattle.writing.specs.declared.sizes.Surveyed.{Surveyed}
 use Rattle.writing.specs.declared.sizes.Tally.{Tally}
@@ -47,7 +47,7 @@ module _ (m : Filled) (set : ℕ) where
     pub no-bits : (j : ℕ) → k ≤ j → bit j (setOf (t .seen)) ≡ false
     pub sum : t .octets ≡ length (addedOctets m (setOf (t .seen)) 0 k)
 
-  pub surveying-begun : Surveying 0 (record { octets = 0; seen = record { low = 0; high = 0 } })
+  surveying-begun : Surveying 0 (record { octets = 0; seen = record { low = 0; high = 0 } })
   unfolding addedOctets addedIn firsts
   surveying-begun =
       let z : n - 0 ≡ n = omega arith in
@@ -62,7 +62,7 @@ module _ (m : Filled) (set : ℕ) where
       }
 
   module _ (k : ℕ) (t : Tally) (s : Surveying k t) where
-    pub surveying-ended : n ≤ k → n ≤ 128 → SurveyedBy m set (Surveyed.Added t)
+    surveying-ended : n ≤ k → n ≤ 128 → SurveyedBy m set (Surveyed.Added t)
     unfolding unfit isNone
     surveying-ended h q =
         let e : k ≡ n = omega (arith, s .inside) in
@@ -71,14 +71,6 @@ module _ (m : Filled) (set : ℕ) where
         (rw g, f, λ j l. s .bits j (omega arith), rw e at (s .sum), omega (arith, s .few))
 
     module _ (h : k < n) where
-      pub surveying-bad : wrongAt m set k ≡ true → SurveyedBy m set Surveyed.Malformed
-      unfolding isNone
-      surveying-bad e = let g : firstFrom bad 0 n ≡ some k = sym (s .good-before) ∙ first-here bad n k h e in rw g
-
-      pub surveying-unfit : not-fit k ≡ true → wrong m set ≡ false → SurveyedBy m set (Surveyed.Unfit k)
-      unfolding unfit
-      surveying-unfit e q = (q, sym (s .fit-before) ∙ first-here not-fit n k h e)
-
       -- a place that is well formed and fits, with a set that has it where it is wanted, and is else the same
       module _ (good : wrongAt m set k ≡ false) (fit : not-fit k ≡ false) (u : Tally)
           (others : (j : ℕ) → (j ≡ k → ⊥) → bit j (setOf (u .seen)) ≡ bit j (setOf (t .seen))) (here : bit k (setOf (u .seen)) ≡ wanted k)
@@ -109,11 +101,11 @@ module _ (m : Filled) (set : ℕ) where
           let l : t .octets ≡ t .octets + length (addedPiece m (setOf (t .seen)) k) = rw (piece-not m (setOf (t .seen)) k z) (omega arith) in
           stepped g f t (λ j i. refl) (z ∙ sym e) l (omega arith)
 
-      pub surveying-absent : LookedAt m set k Looked.Absent → Surveying (k + 1) t
+      surveying-absent : LookedAt m set k Looked.Absent → Surveying (k + 1) t
       unfolding unfitAt
       surveying-absent a = passed (a .0) (rw (a .1)) (rw (a .1))
 
-      pub surveying-step : k < 128 → {l : ℕ} {u : Tally} → LookedAt m set k (Looked.Takes l) → u ≡ addedTo set k l t → Surveying (k + 1) u
+      surveying-step : k < 128 → {l : ℕ} {u : Tally} → LookedAt m set k (Looked.Takes l) → u ≡ addedTo set k l t → Surveying (k + 1) u
       surveying-step low {l = l} a q = rw q (by (bit k set) refl)
         where
           with-it : Tally
@@ -129,3 +121,100 @@ module _ (m : Filled) (set : ℕ) where
               let y : bit k (setOf (with-it .seen)) ≡ true = b k ∙ rw (eq-eqb k k refl) in
               let p : l ≡ length (addedPiece m (setOf (with-it .seen)) k) = a .3 ∙ sym (ap length (piece-added m (setOf (with-it .seen)) k y) ∙ any-iei m k (firstIei (m .table) k)) in
               stepped (a .0) (a .1) with-it (λ j i. b j ∙ rw (ne-eqb j k i)) (y ∙ sym (rw (a .2, e))) (ap (λ (j : ℕ). t .octets + j) p) (omega (arith, a .4))
+
+  -- ---- with the first that does not fit, n where there is none
+
+  pub record Unfitting (k u : ℕ) (t : Tally) : Type 0 where
+    pub inside : k ≤ n
+    pub few : t .octets ≤ mostIe * k
+    pub good-before : firstFrom bad k (n - k) ≡ firstFrom bad 0 n
+    pub before : u < k
+    pub is-first : firstFrom not-fit 0 n ≡ some u
+
+  abbrev pub ByFirst : Bool → ℕ → ℕ → Tally → Type 0
+  ByFirst false k u t = Surveying k t
+  ByFirst true k u t = Unfitting k u t
+
+  pub record Looking (k u : ℕ) (t : Tally) : Type 0 where
+    pub by-first : ByFirst (ltb u n) k u t
+
+  by-test : (b : Bool) (k u : ℕ) (t : Tally) → ltb u n ≡ b → ByFirst b k u t → Looking k u t
+  by-test b k u t e s = record { by-first = rw e s }
+
+  pub looking-begun : Looking 0 n (record { octets = 0; seen = record { low = 0; high = 0 } })
+  looking-begun = by-test false 0 n _ (le-ltb n n (omega arith)) surveying-begun
+
+  module _ (k u : ℕ) (t : Tally) (s : Looking k u t) where
+    good-up-to : (b : Bool) → ByFirst b k u t → firstFrom bad k (n - k) ≡ firstFrom bad 0 n
+    good-up-to false l = l .good-before
+    good-up-to true l = l .good-before
+
+    pub looking-few : (k ≤ n) × (t .octets ≤ mostIe * k)
+    looking-few = by (ltb u n) (s .by-first)
+      where
+        by : (b : Bool) → ByFirst b k u t → (k ≤ n) × (t .octets ≤ mostIe * k)
+        by false l = (l .inside, l .few)
+        by true l = (l .inside, l .few)
+
+    pub looking-ended : n ≤ k → n ≤ 128 → n ≤ u → SurveyedBy m set (Surveyed.Added t)
+    looking-ended h q o = surveying-ended k t (rw (le-ltb u n o) at (s .by-first)) h q
+
+    pub looking-unfit : n ≤ k → u < n → SurveyedBy m set (Surveyed.Unfit u)
+    unfolding unfit isNone
+    looking-unfit h o =
+        let l : Unfitting k u t = rw (lt-ltb u n o) at (s .by-first) in
+        let g : firstFrom bad 0 n ≡ none = sym (l .good-before) ∙ first-over bad n k h in
+        (rw g, l .is-first)
+
+    module _ (h : k < n) where
+      pub looking-bad : LookedAt m set k Looked.Bad → SurveyedBy m set Surveyed.Malformed
+      unfolding isNone
+      looking-bad e = let g : firstFrom bad 0 n ≡ some k = sym (good-up-to (ltb u n) (s .by-first)) ∙ first-here bad n k h e in rw g
+
+      -- behind the first that does not fit only the rows matter
+      passed-over : (l : Unfitting k u t) (v : Tally) → bad k ≡ false → v .octets ≤ t .octets + mostIe → Unfitting (k + 1) u v
+      passed-over l v good f =
+          record {
+            inside = omega arith;
+            few = omega (arith, l .few);
+            good-before = first-further bad n k h good ∙ l .good-before;
+            before = omega (arith, l .before);
+            is-first = l .is-first;
+          }
+
+      pub looking-not-fit : {v : ℕ} → LookedAt m set k Looked.Unfit → v ≡ min u k → Looking (k + 1) v t
+      looking-not-fit {v = v} a e = by (ltb u n) refl (s .by-first)
+        where
+          by : (b : Bool) → ltb u n ≡ b → ByFirst b k u t → Looking (k + 1) v t
+          by false q l =
+              let z = ltb-false u n q in
+              let y : v ≡ k = omega arith in
+              by-test true (k + 1) v t (lt-ltb v n (omega arith))
+              (record {
+                inside = omega arith;
+                few = omega (arith, l .few);
+                good-before = first-further bad n k h (a .0) ∙ l .good-before;
+                before = omega arith;
+                is-first = sym (l .fit-before) ∙ first-here not-fit n k h (a .1) ∙ ap some (sym y);
+              })
+          by true q l =
+              let y : v ≡ u = omega (arith, l .before) in
+              rw y (by-test true (k + 1) u t q (passed-over l t (a .0) (omega arith)))
+
+      pub looking-absent : LookedAt m set k Looked.Absent → Looking (k + 1) u t
+      looking-absent a = by (ltb u n) refl (s .by-first)
+        where
+          by : (b : Bool) → ltb u n ≡ b → ByFirst b k u t → Looking (k + 1) u t
+          by false q l = by-test false (k + 1) u t q (surveying-absent k t l h a)
+          by true q l = by-test true (k + 1) u t q (passed-over l t (a .0) (omega arith))
+
+      pub looking-step : k < 128 → {l : ℕ} {v : Tally} → LookedAt m set k (Looked.Takes l) → v ≡ addedTo set k l t → Looking (k + 1) u v
+      looking-step low {l = n′} {v = v} a e = by (ltb u n) refl (s .by-first)
+        where
+          few-more : (b : Bool) → bit k set ≡ b → v .octets ≤ t .octets + mostIe
+          few-more true q = rw (e, q) (omega arith)
+          few-more false q = rw (e, q) (omega (arith, a .4))
+
+          by : (b : Bool) → ltb u n ≡ b → ByFirst b k u t → Looking (k + 1) u v
+          by false q l = by-test false (k + 1) u v q (surveying-step k t l h low a e)
+          by true q l = by-test true (k + 1) u v q (passed-over l v (a .0) (few-more (bit k set) refl))

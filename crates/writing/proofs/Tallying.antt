@@ -5,23 +5,23 @@ use native.Mathlib.Omega.{arith}
 use native.Mathlib.Nat.{div-add-mod'}
 use mathlib.Core.Path.{_≡_, refl, ap, sym, _∙_}
 use mathlib.Core.List.{List, [], _∷_}
-use mathlib.Core.Bool.{Bool, true, false, _||_}
+use mathlib.Core.Bool.{Bool, true, false, _||_, false≢true}
 use mathlib.Core.Option.{Option, none, some}
 use borrow.Author.Tests.{lt-ltb}
-use lib.ListN.{length, drop}
+use lib.ListN.{length, drop, length-drop}
 use lib.Dec.{eqb}
-use Rattle.definitions.specs.Basic.{pick, bit, among}
+use Rattle.definitions.specs.Basic.{pick, bit, among, isNone}
 use Rattle.definitions.specs.Rows.{Row, form, rowAt, rowsOf, firstBad, placeOf, placeIn}
 use Rattle.definitions.specs.Elements.{including}
 use Rattle.definitions.specs.Values.{valueAt, present, octetsAt}
-use Rattle.definitions.specs.Logs.{Placed, knownIei, notKnown, ignored, Reason, orderEntry}
+use Rattle.definitions.specs.Logs.{Placed, knownIei, notKnown, ignored, Reason, put, orderList, orderEntry, orEmpty}
 use Rattle.definitions.specs.Writing.{Filled, encoded, elementAt, logged}
 use Rattle.definitions.proofs.BitLaws.{bit-including}
-use Rattle.definitions.proofs.Orders.{orderFront}
+use Rattle.definitions.proofs.Orders.{orderFront, order-nil}
 use Rattle.definitions.proofs.RowLaws.{listed}
 use Rattle.definitions.proofs.TableLaws.{few-places, index-place}
 use Rattle.definitions.proofs.WriteLaws.{loggedLength}
-use Rattle.definitions.proofs.LogSteps.{OrderAt, orderFrom, order-split, order-next, order-over}
+use Rattle.definitions.proofs.LogSteps.{OrderAt, orderFrom, order-split, order-next, order-never, order-over}
 use Rattle.seen.specs.Seen.{setOf, seenOf, includingPlace}
 use Rattle.seen.specs.declared.Seen.{Seen}
 use Rattle.agreement.specs.Agreed.{knownSet, entrySet, entryApart, Agreeing}
@@ -115,7 +115,7 @@ pub record Logging (m : Filled) (order : List ℕ) (at : ℕ) (t : Tally) (apart
   pub agrees : Agreeing (m .table) (m .rows) (tells .ps) (orderFrom order at) (setOf (t .seen)) apart
 
 module _ (m : Filled) (order : List ℕ) where
-  pub logging-begun : OrderAt order 0 → Logging m order 0 (record { octets = 0; seen = record { low = 0; high = 0 } }) false
+  logging-begun : OrderAt order 0 → Logging m order 0 (record { octets = 0; seen = record { low = 0; high = 0 } }) false
   logging-begun l =
       record {
         here = l;
@@ -132,7 +132,7 @@ module _ (m : Filled) (order : List ℕ) where
       nothing k b = ap (λ (x : Bool). b || x) (no-bit k) ∙ or-false b
 
   module _ (at : ℕ) (t : Tally) (apart : Bool) (l : Logging m order at t apart) where
-    pub logging-step : firstBad (m .table) ≡ none → (h : at < length order) {p : Placed} {r : Tally} {x : Bool} → orderFront (drop at order) ≡ some p → Tallied m p t r
+    logging-step : firstBad (m .table) ≡ none → (h : at < length order) {p : Placed} {r : Tally} {x : Bool} → orderFront (drop at order) ≡ some p → Tallied m p t r
         → x ≡ entryApart (m .table) (m .rows) p (setOf (t .seen)) apart → Logging m order (at + length (orderEntry p)) r x
     logging-step passes h {p = p} {r = r} e s y =
         let n = order-next order at h (l .here) e in
@@ -156,7 +156,7 @@ module _ (m : Filled) (order : List ℕ) where
             → (g : Tells m order (t .octets) (setOf (t .seen)) left′) × Agreeing (m .table) (m .rows) (g .ps) left′ (setOf (t .seen)) apart
         stepped e g a = (record { ps = g .ps; is = g .is; sum = rw e at (g .sum); places = rw e at (g .places) }, rw e at a)
 
-    pub logging-ended : length order ≤ at → LoggedBy m order (foundBy t apart)
+    logging-ended : length order ≤ at → LoggedBy m order (foundBy t apart)
     logging-ended h =
         let e : at ≡ length order = omega (arith, l .here .inside) in
         let o = order-over order at h in
@@ -165,3 +165,54 @@ module _ (m : Filled) (order : List ℕ) where
           tells = record { ps = l .tells .ps; is = l .tells .is; sum = rw o at (l .tells .sum); places = rw o at (l .tells .places) };
           agrees = rw o at (l .agrees);
         }
+
+-- ---- an order log of which it is not known yet whether it is well formed
+
+put-none : {X : Type 0} (x : X) (o : Option (List X)) → put x o ≡ none → o ≡ none
+unfolding put isNone
+put-none x none e = refl
+put-none x (some xs) e = absurd (false≢true (ap isNone e))
+
+abbrev pub ByLog : Filled → List ℕ → ℕ → Tally → Bool → Option (List Placed) → Type 0
+ByLog m order at t apart (some ps) = Logging m order at t apart
+ByLog m order at t apart none = orderList (drop at order) ≡ none
+
+pub record Walking (m : Filled) (order : List ℕ) (at : ℕ) (t : Tally) (apart : Bool) : Type 0 where
+  pub inside : at ≤ length order
+  pub few : t .octets ≤ mostIe * at
+  pub by-log : ByLog m order at t apart (orderList order)
+
+module _ (m : Filled) (order : List ℕ) where
+  pub walking-begun : Walking m order 0 (record { octets = 0; seen = record { low = 0; high = 0 } }) false
+  unfolding orderFrom orEmpty
+  walking-begun = record { inside = omega arith; few = omega arith; by-log = by (orderList order) refl }
+    where
+      by : (o : Option (List Placed)) → orderList order ≡ o → ByLog m order 0 (record { octets = 0; seen = record { low = 0; high = 0 } }) false o
+      by (some ps) e = logging-begun m order (record { inside = omega arith; formed = e ∙ ap (λ (o : Option (List Placed)). some (orEmpty o)) (sym e) })
+      by none e = e
+
+  module _ (at : ℕ) (t : Tally) (apart : Bool) (w : Walking m order at t apart) where
+    pub walking-step : firstBad (m .table) ≡ none → (h : at < length order) {p : Placed} {r : Tally} {x : Bool} → orderFront (drop at order) ≡ some p → Tallied m p t r
+        → x ≡ entryApart (m .table) (m .rows) p (setOf (t .seen)) apart → Walking m order (at + length (orderEntry p)) r x
+    walking-step passes h {p = p} {r = r} {x = x} e s y =
+        let l = order-split order at h e in
+        record { inside = l .within; few = omega (arith, l .octet, s .few, w .few); by-log = by (orderList order) (w .by-log) }
+      where
+        by : (o : Option (List Placed)) → ByLog m order at t apart o → ByLog m order (at + length (orderEntry p)) r x o
+        by (some ps) g = logging-step m order at t apart g passes h e s y
+        by none g = put-none p (orderList (drop (at + length (orderEntry p)) order)) (sym (order-split order at h e .splits) ∙ g)
+
+    pub walking-stopped : (h : at < length order) → orderFront (drop at order) ≡ none → orderList order ≡ none
+    walking-stopped h e = by (orderList order) (w .by-log)
+      where
+        by : (o : Option (List Placed)) → ByLog m order at t apart o → o ≡ none
+        by (some ps) g = absurd (order-never order at h (g .here) e)
+        by none g = refl
+
+    pub walking-ended : length order ≤ at → LoggedBy m order (foundBy t apart)
+    unfolding isNone
+    walking-ended h = by (orderList order) (w .by-log)
+      where
+        by : (o : Option (List Placed)) → ByLog m order at t apart o → LoggedBy m order (foundBy t apart)
+        by (some ps) g = logging-ended m order at t apart g h
+        by none g = absurd (false≢true (ap isNone (sym (order-nil (drop at order) (simp length-drop (omega arith))) ∙ g)))

@@ -16,6 +16,7 @@ use Rattle.writing.specs.Walks.{addedOctets}
 use Rattle.agreement.specs.Agreed.{apartBy, entrySet, Agreeing}
 use Rattle.writing.specs.declared.sizes.Tally.{Tally}
 use Rattle.writing.specs.declared.sizes.Logged.{Logged}
+use Rattle.writing.specs.declared.sizes.Walked.{Walked}
 use Rattle.writing.specs.declared.sizes.Looked.{Looked}
 use Rattle.writing.specs.declared.sizes.Surveyed.{Surveyed}
 
@@ -74,6 +75,10 @@ pub record LoggedBy (m : Filled) (order : List ℕ) (t : Logged) : Type 0 where
   pub tells : Tells m order (t .octets) (setOf (t .seen)) []
   pub agrees : Agreeing (m .table) (m .rows) (tells .ps) [] (setOf (t .seen)) (t .apart)
 
+abbrev pub WalkedBy : Filled → List ℕ → Walked → Type 0
+WalkedBy m order (Walked.Log t) = LoggedBy m order t
+WalkedBy m order Walked.Malformed = orderList order ≡ none
+
 -- ---- the places
 
 -- whether a row is malformed, or is present under another IEI than its first, with a place that the log does not name
@@ -86,7 +91,7 @@ wrong m set = anyOf (wrongAt m set) (length (m .table))
 -- one place, by the set of the logged ones
 abbrev pub LookedAt : Filled → ℕ → ℕ → Looked → Type 0
 LookedAt m set k Looked.Bad = wrongAt m set k ≡ true
-LookedAt m set k Looked.Unfit = unfitAt (m .table) (m .octets) (m .rows) k ≡ true
+LookedAt m set k Looked.Unfit = (wrongAt m set k ≡ false) × (unfitAt (m .table) (m .octets) (m .rows) k ≡ true)
 LookedAt m set k Looked.Absent = (wrongAt m set k ≡ false) × (present (valueAt (m .rows) k) ≡ false)
 LookedAt m set k (Looked.Takes n) =
     (wrongAt m set k ≡ false) × (unfitAt (m .table) (m .octets) (m .rows) k ≡ false)

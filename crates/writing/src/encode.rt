@@ -1,12 +1,14 @@
 // Writing an optional part by a table.
+use crate::sizes::Logged;
 use crate::sizes::Surveyed;
+use crate::sizes::Walked;
 use crate::sizes::logged_len;
 use crate::sizes::survey;
 use crate::walk::write;
 use kept::MOST_LOG;
 use kept::too_long;
-use logs::Logs;
-use logs::check_logs;
+use logs::Kept;
+use logs::kept_len;
 use octets::MOST_OCTETS;
 use real::index_p;
 use real::index_pdu_session_establishment_accept;
@@ -30,9 +32,12 @@ ghost use mathlib.Core.Option.{none};
 ghost use Rattle.definitions.specs.Rows.{rowsOf, firstBad};
 ghost use Rattle.definitions.specs.Writing.{writing, writingBy};
 ghost use Rattle.kept.specs.Kept.{usedOf};
-ghost use Rattle.logs.specs.Checks.{Formed};
+ghost use Rattle.definitions.specs.Logs.{keptList};
+ghost use Rattle.logs.specs.Checks.{keptOctets};
+ghost use Rattle.logs.specs.declared.Kept.{Kept};
 ghost use Rattle.real.specs.Real.{realOf};
-ghost use Rattle.writing.specs.Walks.{IndexIs};
+ghost use Rattle.writing.specs.Walks.{IndexIs, filledOf};
+ghost use Rattle.writing.specs.Sizes.{LoggedBy};
 ghost use Rattle.writing.specs.Encodes.{Encodes, usedUp, Limited};
 
 // What is malformed.
@@ -54,7 +59,8 @@ pub enum Encoded {
     NoOutput(u64),
 }
 
-// By a table that passes and its index, of the octets that are used, with a row for each place and two logs that are well formed.
+// By a table that passes and its index, of the octets that are used, with a row for each place and two logs that are well formed, by
+// what was found in each.
 fn encode_formed<'a>(
     table: &[u32],
     index: &[u8],
@@ -63,13 +69,13 @@ fn encode_formed<'a>(
     set: &'a [u8],
     kept: &[u8],
     order: &[u8],
+    t: Logged,
     kept_octets: usize,
     output: &mut [u8],
 ) -> Encoded
-    requires { ⌜ Limited (now table) (now index) (now rows) (now received) (now set) (now kept) (now order) × Formed (now order) (now kept) «kept_octets» ⌝ }
+    requires { ⌜ Limited (now table) (now index) (now rows) (now received) (now set) (now kept) (now order) × LoggedBy (filledOf (now table) (now rows) (now received) (now set)) (now order) t × (Kept.Octets «kept_octets» ≡ keptOctets (keptList (now kept))) ⌝ }
     ensures { λ r. ⌜ Encodes (writing (now (table .entry)) (now (rows .entry)) (now (received .entry)) (usedUp (now (set .entry))) (usedUp (now (order .entry))) (usedUp (now (kept .entry))) (now (output .entry))) r (now (output .exit)) ⌝ }
 {
-    let t = logged_len(table, index, rows, received, set, order);
     if t.apart {
         return Encoded::Malformed(Which::Rows);
     }
@@ -113,20 +119,23 @@ fn encode_used<'a>(
     requires { ⌜ Limited (now table) (now index) (now rows) (now received) (now set) (now kept) (now order) ⌝ }
     ensures { λ r. ⌜ Encodes (writing (now (table .entry)) (now (rows .entry)) (now (received .entry)) (usedUp (now (set .entry))) (usedUp (now (order .entry))) (usedUp (now (kept .entry))) (now (output .entry))) r (now (output .exit)) ⌝ }
 {
-    match check_logs(order, kept) {
-        Logs::Formed(octets) => encode_formed(
-            table,
-            index,
-            rows,
-            received,
-            set,
-            kept,
-            order,
-            octets,
-            output,
-        ),
-        Logs::Order => Encoded::Malformed(Which::Order),
-        Logs::Kept => Encoded::Malformed(Which::Kept),
+    match logged_len(table, index, rows, received, set, order) {
+        Walked::Log(t) => match kept_len(kept) {
+            Kept::Octets(octets) => encode_formed(
+                table,
+                index,
+                rows,
+                received,
+                set,
+                kept,
+                order,
+                t,
+                octets,
+                output,
+            ),
+            Kept::Malformed => Encoded::Malformed(Which::Kept),
+        },
+        Walked::Malformed => Encoded::Malformed(Which::Order),
     }
 }
 

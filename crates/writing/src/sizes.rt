@@ -21,17 +21,15 @@ use values::row::row_at;
 use values::row::value_octets;
 ghost use mathlib.Core.Path.{_≡_};
 ghost use mathlib.Core.Option.{none};
-ghost use Prim.Native.Nat.{_≤_, _<_};
+ghost use Prim.Native.Nat.{_≤_, _<_, min};
 ghost use lib.ListN.{length};
 ghost use Rattle.definitions.specs.Rows.{rowsOf, firstBad};
-ghost use Rattle.definitions.specs.Values.{anyOf};
-ghost use Rattle.definitions.proofs.LogSteps.{OrderAt};
 ghost use Rattle.order.specs.Order.{placedAs};
 ghost use Rattle.seen.specs.Seen.{setOf};
 ghost use Rattle.rows.specs.Forms.{formAs};
 ghost use Rattle.agreement.specs.Agreed.{entryApart};
 ghost use Rattle.writing.specs.Walks.{filledOf, IndexIs};
-ghost use Rattle.writing.specs.Sizes.{takes, placeLength, mostIe, Sized, Tallied, foundBy, LoggedBy, addedTo, wrongAt, LookedAt, SurveyedBy};
+ghost use Rattle.writing.specs.Sizes.{takes, placeLength, mostIe, Sized, Tallied, foundBy, WalkedBy, addedTo, wrongAt, LookedAt, SurveyedBy};
 
 // The octets of the added elements, and their places.
 pub struct Tally {
@@ -44,6 +42,12 @@ pub struct Logged {
     pub octets: usize,
     pub seen: Seen,
     pub apart: bool,
+}
+
+// A walk over the order log: what it found, or that the log is malformed.
+pub enum Walked {
+    Log(Logged),
+    Malformed,
 }
 
 // A place looked at: its row is malformed or disagrees with the order log, its value does not fit, it is absent, or its element takes so many octets.
@@ -143,7 +147,7 @@ fn entry_apart(
     }
 }
 
-// The whole order log, which is well formed.
+// The whole order log.
 pub(crate) fn logged_len<'a>(
     table: &[u32],
     index: &[u8],
@@ -151,9 +155,9 @@ pub(crate) fn logged_len<'a>(
     received: &'a [u8],
     set: &'a [u8],
     order: &[u8],
-) -> Logged
-    requires { ⌜ Sized (now table) (now index) (now received) (now set) × (length (now order) ≤ 131070) × OrderAt (now order) 0 ⌝ }
-    ensures { λ r. ⌜ LoggedBy (filledOf (now (table .entry)) (now (rows .entry)) (now (received .entry)) (now (set .entry))) (now (order .entry)) r ⌝ }
+) -> Walked
+    requires { ⌜ Sized (now table) (now index) (now received) (now set) × (length (now order) ≤ 131070) ⌝ }
+    ensures { λ r. ⌜ WalkedBy (filledOf (now (table .entry)) (now (rows .entry)) (now (received .entry)) (now (set .entry))) (now (order .entry)) r ⌝ }
 {
     let mut at = 0;
     let mut t = Tally {
@@ -170,11 +174,11 @@ pub(crate) fn logged_len<'a>(
                 at += entry_len(entry);
             }
             Front::Not => {
-                return found(t, apart);
+                return Walked::Malformed;
             }
         }
     }
-    found(t, apart)
+    Walked::Log(found(t, apart))
 }
 
 // What a walk over the log found.
@@ -258,22 +262,17 @@ fn with_added(seen: Seen, place: usize, len: usize, t: Tally) -> Tally
     }
 }
 
-// Whether a row of the first n is wrong.
-fn any_wrong(table: &[u32], rows: &[u32], received: &[u8], set: &[u8], seen: Seen, n: usize) -> bool
-    requires { ⌜ firstBad (rowsOf (now table)) ≡ none ⌝ }
-    ensures { λ r. ⌜ r ≡ anyOf (wrongAt (filledOf (now (table .entry)) (now (rows .entry)) (now (received .entry)) (now (set .entry))) (setOf seen)) n ⌝ }
+fn lower(a: usize, b: usize) -> usize
+    ensures { λ r. ⌜ r ≡ min a b ⌝ }
 {
-    let mut k = 0;
-    while k < n {
-        if is_wrong(table, rows, received, set, seen, k) {
-            return true;
-        }
-        k += 1;
+    if a < b {
+        return a;
     }
-    false
+    b
 }
 
-// One look at each place, by the set of those in the order log.
+// One look at each place, by the set of those in the order log. A value that does not fit waits for the rows behind it: one that is
+// wrong comes first.
 pub(crate) fn survey<'a>(
     table: &[u32],
     rows: &[u32],
@@ -289,6 +288,7 @@ pub(crate) fn survey<'a>(
         octets: 0,
         seen: Seen { low: 0, high: 0 },
     };
+    let mut unfit = n;
     let mut k = 0;
     while k < n {
         match look(table, rows, received, set, seen, k) {
@@ -296,10 +296,8 @@ pub(crate) fn survey<'a>(
                 return Surveyed::Malformed;
             }
             Looked::Unfit => {
-                if any_wrong(table, rows, received, set, seen, n) {
-                    return Surveyed::Malformed;
-                }
-                return Surveyed::Unfit(k);
+                unfit = lower(unfit, k);
+                k += 1;
             }
             Looked::Absent => {
                 k += 1;
@@ -309,6 +307,9 @@ pub(crate) fn survey<'a>(
                 k += 1;
             }
         }
+    }
+    if unfit < n {
+        return Surveyed::Unfit(unfit);
     }
     Surveyed::Added(t)
 }

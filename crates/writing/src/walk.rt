@@ -14,6 +14,7 @@ use rows::index::Place;
 use rows::index::place_of;
 use seen::Seen;
 use seen::seen_has;
+use seen::seen_none;
 use values::row::row_at;
 use values::row::value_octets;
 ghost use mathlib.Core.Path.{_≡_};
@@ -120,6 +121,27 @@ fn put_added<'a>(
     next
 }
 
+// The same where there may be none: most messages have no added element, and are not looked through for one at each entry.
+fn put_lower<'a>(
+    table: &[u32],
+    rows: &[u32],
+    received: &'a [u8],
+    set: &'a [u8],
+    added: Seen,
+    from: usize,
+    to: usize,
+    output: &mut [u8],
+    at: usize,
+) -> usize
+    requires { ⌜ Writable (now table) (now rows) (now received) (now set) × (to ≤ length (rowsOf (now table))) × (at + length (addedOctets (filledOf (now table) (now rows) (now received) (now set)) (setOf added) from to) ≤ length (now output)) ⌝ }
+    ensures { λ r. ⌜ PutAt at (addedOctets (filledOf (now (table .entry)) (now (rows .entry)) (now (received .entry)) (now (set .entry))) (setOf added) from to) (now (output .entry)) r (now (output .exit)) ⌝ }
+{
+    if seen_none(added) {
+        return at;
+    }
+    put_added(table, rows, received, set, added, from, to, output, at)
+}
+
 // The next kept element, if there is one.
 fn put_kept(kept: &[u8], pen: Pen, output: &mut [u8]) -> Pen
     requires { ⌜ KeptAt (now kept) (pen .kept) × (pen .at + length (nextOf (keptFrom (now kept) (pen .kept))) ≤ length (now output)) ⌝ }
@@ -169,7 +191,7 @@ fn put_known<'a>(
 {
     match place_of(index, iei) {
         Place::At(k) => {
-            let at = put_added(
+            let at = put_lower(
                 table,
                 rows,
                 received,

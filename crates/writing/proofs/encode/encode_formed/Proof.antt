@@ -1,33 +1,30 @@
--- `encode_formed` measures, makes the checks of the rows in their order, and writes.
+-- `encode_formed` makes the checks of the rows in their order, measures, and writes.
 -- Each way out cites the law of its check; what was measured is as long as what is written.
 use native.Mathlib.Omega.{arith}
 use mathlib.Core.Path.{sym, _∙_}
 use mathlib.Core.List.{[]}
 use mathlib.Core.Bool.{false}
 use Rattle.definitions.specs.Rows.{rowsOf}
-use Rattle.logs.proofs.Formed.{kept-few}
+use Rattle.logs.proofs.Formed.{kept-few, kept-told}
 use Rattle.seen.specs.Seen.{setOf}
 use Rattle.agreement.specs.Agreed.{Agreeing}
 use Rattle.writing.specs.Walks.{filledOf}
 use Rattle.writing.specs.Sizes.{SurveyedBy}
 use Rattle.writing.specs.declared.sizes.Surveyed.{Surveyed}
-use Rattle.writing.proofs.Encoding.{needed, all-left, writable, kept-begins, order-stands, order-begins, wrong-rows, apart-rows, bad-rows, no-fit, no-output, done}
+use Rattle.writing.proofs.Encoding.{needed, all-left, writable, kept-begins, order-begins, wrong-rows, apart-rows, bad-rows, no-fit, no-output, done}
 use borrow.Author.Needs.{needs}
 use Rattle.writing.proofs.encode.encode_formed.Statement.{statement}
 use Rattle.writing.proofs.encode.encode_formed.Tie as tie
 
-logged-len-requires : tie.Need-logged-len-requires
-logged-len-requires c κs = (c .before .before .before .before .before .before .before .before .pre .0 .sized, c .before .before .before .before .before .before .before .before .pre .0 .order-short, order-stands (c .before .before .before .before .before .before .before .before .args .order .now) (c .before .before .before .before .before .before .before .before .pre .1 .order-is))
-
 returns : tie.Need-returns
-returns c = bad-rows (c .before .before .before .before .before .before .before .before .before .before .args .table .now) (c .before .before .before .before .before .before .before .before .before .before .args .index .now) (c .before .before .before .before .before .before .before .before .before .before .args .rows .now) (c .before .before .before .before .before .before .before .before .before .before .args .received .now) (c .before .before .before .before .before .before .before .before .before .before .args .set .now) (c .before .before .before .before .before .before .before .before .before .before .args .kept .now) (c .before .before .before .before .before .before .before .before .before .before .args .order .now) (c .before .before .before .before .before .before .before .before .before .before .args .output .now) (c .before .before .before .before .before .before .before .before .before .before .pre .0) (c .before .logged-len .ensures .tells .ps) (c .before .logged-len .ensures .tells .is) (c .before .before .before .before .before .before .before .before .before .before .pre .1 .es) (c .before .before .before .before .before .before .before .before .before .before .pre .1 .kept-is) (apart-rows (filledOf (c .before .before .before .before .before .before .before .before .before .before .args .table .now) (c .before .before .before .before .before .before .before .before .before .before .args .rows .now) (c .before .before .before .before .before .before .before .before .before .before .args .received .now) (c .before .before .before .before .before .before .before .before .before .before .args .set .now)) (setOf (c .before .logged-len .result .seen)) (c .before .logged-len .ensures .tells .ps) (rw (c .if1 .taken) at (c .before .logged-len .ensures .agrees)))
+returns c = let a = c .before .before .before .before .before .before .before .before .before .args in let m = filledOf (a .table .now) (a .rows .now) (a .received .now) (a .set .now) in let k = kept-told (a .kept .now) (c .before .before .before .before .before .before .before .before .before .pre .2) in bad-rows (a .table .now) (a .index .now) (a .rows .now) (a .received .now) (a .set .now) (a .kept .now) (a .order .now) (a .output .now) (c .before .before .before .before .before .before .before .before .before .pre .0) (c .before .before .before .before .before .before .before .before .before .pre .1 .tells .ps) (c .before .before .before .before .before .before .before .before .before .pre .1 .tells .is) (k .es) (k .kept-is) (apart-rows m (setOf (a .t .seen)) (c .before .before .before .before .before .before .before .before .before .pre .1 .tells .ps) (rw (c .if1 .taken) at (c .before .before .before .before .before .before .before .before .before .pre .1 .agrees)))
 
 -- no row of a logged place disagrees
-agreed : (c : tie.Else1) → Agreeing (rowsOf (c .before .before .before .before .before .before .before .before .before .before .args .table .now)) (c .before .before .before .before .before .before .before .before .before .before .args .rows .now) (c .before .logged-len .ensures .tells .ps) [] (setOf (c .before .logged-len .result .seen)) false
-agreed c = rw (c .if1 .left) at (c .before .logged-len .ensures .agrees)
+agreed : (c : tie.Else1) → Agreeing (rowsOf (c .before .before .before .before .before .before .before .before .before .args .table .now)) (c .before .before .before .before .before .before .before .before .before .args .rows .now) (c .before .before .before .before .before .before .before .before .before .pre .1 .tells .ps) [] (setOf (c .before .before .before .before .before .before .before .before .before .args .t .seen)) false
+agreed c = rw (c .if1 .left) at (c .before .before .before .before .before .before .before .before .before .pre .1 .agrees)
 
 survey-requires : tie.Need-survey-requires
-survey-requires c κs = (c .before .before .before .before .before .before .before .before .before .before .before .pre .0 .sized .passes, c .before .before .before .before .before .before .before .before .before .before .before .pre .0 .sized .received-short, c .before .before .before .before .before .before .before .before .before .before .before .pre .0 .sized .set-short)
+survey-requires c κs = (c .before .before .before .before .before .before .before .before .before .before .pre .0 .sized .passes, c .before .before .before .before .before .before .before .before .before .before .pre .0 .sized .received-short, c .before .before .before .before .before .before .before .before .before .before .pre .0 .sized .set-short)
 
 enum-told : tie.Need-enum-told
 enum-told c = search needs
@@ -39,32 +36,32 @@ enum-known-a : tie.Need-enum-known-a
 enum-known-a c = search needs
 
 -- what all places say
-surveyed : (c : tie.After-a) → SurveyedBy (filledOf (c .before .before .before .before .before .before .before .before .before .before .before .before .before .before .args .table .now) (c .before .before .before .before .before .before .before .before .before .before .before .before .before .before .args .rows .now) (c .before .before .before .before .before .before .before .before .before .before .before .before .before .before .args .received .now) (c .before .before .before .before .before .before .before .before .before .before .before .before .before .before .args .set .now)) (setOf (c .before .before .before .before .before .logged-len .result .seen)) (Surveyed.Added (c .a .given .0 .0))
+surveyed : (c : tie.After-a) → SurveyedBy (filledOf (c .before .before .before .before .before .before .before .before .before .before .before .before .before .args .table .now) (c .before .before .before .before .before .before .before .before .before .before .before .before .before .args .rows .now) (c .before .before .before .before .before .before .before .before .before .before .before .before .before .args .received .now) (c .before .before .before .before .before .before .before .before .before .before .before .before .before .args .set .now)) (setOf (c .before .before .before .before .before .before .before .before .before .before .before .before .before .args .t .seen)) (Surveyed.Added (c .a .given .0 .0))
 surveyed c = rw (c .a .given .1) at (c .before .before .survey .ensures)
 
 add-need : tie.Need-add-need
-add-need c = omega (arith, c .before .before .before .before .before .before .before .before .logged-len .ensures .few, c .before .before .before .before .before .before .before .before .before .before .before .before .before .before .before .before .before .pre .1 .octets-are, kept-few (c .before .before .before .before .before .before .before .before .before .before .before .before .before .before .before .before .before .args .kept .now) (c .before .before .before .before .before .before .before .before .before .before .before .before .before .before .before .before .before .pre .1 .kept-is), c .before .before .before .before .before .before .before .before .before .before .before .before .before .before .before .before .before .pre .0 .order-short, c .before .before .before .before .before .before .before .before .before .before .before .before .before .before .before .before .before .pre .0 .kept-short)
+add-need c = let k = kept-told (c .before .before .before .before .before .before .before .before .before .before .before .before .before .before .before .before .args .kept .now) (c .before .before .before .before .before .before .before .before .before .before .before .before .before .before .before .before .pre .2) in omega (arith, c .before .before .before .before .before .before .before .before .before .before .before .before .before .before .before .before .pre .1 .few, k .octets-are, kept-few (c .before .before .before .before .before .before .before .before .before .before .before .before .before .before .before .before .args .kept .now) (k .kept-is), c .before .before .before .before .before .before .before .before .before .before .before .before .before .before .before .before .pre .0 .order-short, c .before .before .before .before .before .before .before .before .before .before .before .before .before .before .before .before .pre .0 .kept-short)
 
 add-need-2 : tie.Need-add-need-2
-add-need-2 c = omega (arith, c .before .before .before .before .before .before .before .before .before .logged-len .ensures .few, c .before .before .before .before .before .before .before .before .before .before .before .before .before .before .before .before .before .before .pre .1 .octets-are, kept-few (c .before .before .before .before .before .before .before .before .before .before .before .before .before .before .before .before .before .before .args .kept .now) (c .before .before .before .before .before .before .before .before .before .before .before .before .before .before .before .before .before .before .pre .1 .kept-is), c .before .before .before .before .before .before .before .before .before .before .before .before .before .before .before .before .before .before .pre .0 .order-short, c .before .before .before .before .before .before .before .before .before .before .before .before .before .before .before .before .before .before .pre .0 .kept-short, surveyed (c .before .before .before .before) .4)
+add-need-2 c = let k = kept-told (c .before .before .before .before .before .before .before .before .before .before .before .before .before .before .before .before .before .args .kept .now) (c .before .before .before .before .before .before .before .before .before .before .before .before .before .before .before .before .before .pre .2) in omega (arith, c .before .before .before .before .before .before .before .before .before .before .before .before .before .before .before .before .before .pre .1 .few, k .octets-are, kept-few (c .before .before .before .before .before .before .before .before .before .before .before .before .before .before .before .before .before .args .kept .now) (k .kept-is), c .before .before .before .before .before .before .before .before .before .before .before .before .before .before .before .before .before .pre .0 .order-short, c .before .before .before .before .before .before .before .before .before .before .before .before .before .before .before .before .before .pre .0 .kept-short, surveyed (c .before .before .before .before) .4)
 
 returns-2 : tie.Need-returns-2
-returns-2 c = no-output (c .before .before .before .before .before .before .before .before .before .before .before .before .before .before .before .before .before .before .before .args .table .now) (c .before .before .before .before .before .before .before .before .before .before .before .before .before .before .before .before .before .before .before .args .index .now) (c .before .before .before .before .before .before .before .before .before .before .before .before .before .before .before .before .before .before .before .args .rows .now) (c .before .before .before .before .before .before .before .before .before .before .before .before .before .before .before .before .before .before .before .args .received .now) (c .before .before .before .before .before .before .before .before .before .before .before .before .before .before .before .before .before .before .before .args .set .now) (c .before .before .before .before .before .before .before .before .before .before .before .before .before .before .before .before .before .before .before .args .kept .now) (c .before .before .before .before .before .before .before .before .before .before .before .before .before .before .before .before .before .before .before .args .order .now) (c .before .before .before .before .before .before .before .before .before .before .before .before .before .before .before .before .before .before .before .args .output .now) (c .before .before .before .before .before .before .before .before .before .before .before .before .before .before .before .before .before .before .before .pre .0) (c .before .before .before .before .before .before .before .before .before .before .logged-len .ensures .tells .ps) (c .before .before .before .before .before .before .before .before .before .before .logged-len .ensures .tells .is) (c .before .before .before .before .before .before .before .before .before .before .before .before .before .before .before .before .before .before .before .pre .1 .es) (c .before .before .before .before .before .before .before .before .before .before .before .before .before .before .before .before .before .before .before .pre .1 .kept-is) (sym (wrong-rows (filledOf (c .before .before .before .before .before .before .before .before .before .before .before .before .before .before .before .before .before .before .before .args .table .now) (c .before .before .before .before .before .before .before .before .before .before .before .before .before .before .before .before .before .before .before .args .rows .now) (c .before .before .before .before .before .before .before .before .before .before .before .before .before .before .before .before .before .before .before .args .received .now) (c .before .before .before .before .before .before .before .before .before .before .before .before .before .before .before .before .before .before .before .args .set .now)) (setOf (c .before .before .before .before .before .before .before .before .before .before .logged-len .result .seen)) (c .before .before .before .before .before .before .before .before .before .before .logged-len .ensures .tells .ps) (agreed (c .before .before .before .before .before .before .before .before .before))) ∙ surveyed (c .before .before .before .before .before) .0) (surveyed (c .before .before .before .before .before) .1) _ (needed (filledOf (c .before .before .before .before .before .before .before .before .before .before .before .before .before .before .before .before .before .before .before .args .table .now) (c .before .before .before .before .before .before .before .before .before .before .before .before .before .before .before .before .before .before .before .args .rows .now) (c .before .before .before .before .before .before .before .before .before .before .before .before .before .before .before .before .before .before .before .args .received .now) (c .before .before .before .before .before .before .before .before .before .before .before .before .before .before .before .before .before .before .before .args .set .now)) (c .before .before .before .before .before .before .before .before .before .before .before .before .before .before .before .before .before .before .before .args .order .now) (c .before .before .before .before .before .before .before .before .before .before .logged-len .result .octets) (setOf (c .before .before .before .before .before .before .before .before .before .before .logged-len .result .seen)) (setOf (c .before .before .before .before .before .a .given .0 .0 .seen)) (c .before .before .before .before .before .before .before .before .before .before .logged-len .ensures .tells) (surveyed (c .before .before .before .before .before) .2) (c .before .before .before .before .before .before .before .before .before .before .before .before .before .before .before .before .before .before .before .pre .1 .es) (c .before .before .before .before .before .before .before .before .before .before .before .before .before .before .before .before .before .before .before .pre .1 .octets-are) (surveyed (c .before .before .before .before .before) .3)) (c .if2 .taken)
+returns-2 c = let a = c .before .before .before .before .before .before .before .before .before .before .before .before .before .before .before .before .before .before .args in let m = filledOf (a .table .now) (a .rows .now) (a .received .now) (a .set .now) in let k = kept-told (a .kept .now) (c .before .before .before .before .before .before .before .before .before .before .before .before .before .before .before .before .before .before .pre .2) in no-output (a .table .now) (a .index .now) (a .rows .now) (a .received .now) (a .set .now) (a .kept .now) (a .order .now) (a .output .now) (c .before .before .before .before .before .before .before .before .before .before .before .before .before .before .before .before .before .before .pre .0) (c .before .before .before .before .before .before .before .before .before .before .before .before .before .before .before .before .before .before .pre .1 .tells .ps) (c .before .before .before .before .before .before .before .before .before .before .before .before .before .before .before .before .before .before .pre .1 .tells .is) (k .es) (k .kept-is) (sym (wrong-rows m (setOf (a .t .seen)) (c .before .before .before .before .before .before .before .before .before .before .before .before .before .before .before .before .before .before .pre .1 .tells .ps) (agreed (c .before .before .before .before .before .before .before .before .before))) ∙ surveyed (c .before .before .before .before .before) .0) (surveyed (c .before .before .before .before .before) .1) _ (needed m (a .order .now) (a .t .octets) (setOf (a .t .seen)) (setOf (c .before .before .before .before .before .a .given .0 .0 .seen)) (c .before .before .before .before .before .before .before .before .before .before .before .before .before .before .before .before .before .before .pre .1 .tells) (surveyed (c .before .before .before .before .before) .2) (k .es) (k .octets-are) (surveyed (c .before .before .before .before .before) .3)) (c .if2 .taken)
 
 write-requires : tie.Need-write-requires
-write-requires c κs = (writable (c .before .before .before .before .before .before .before .before .before .before .before .before .before .before .before .before .before .before .before .before .args .table .now) (c .before .before .before .before .before .before .before .before .before .before .before .before .before .before .before .before .before .before .before .before .args .rows .now) (c .before .before .before .before .before .before .before .before .before .before .before .before .before .before .before .before .before .before .before .before .args .received .now) (c .before .before .before .before .before .before .before .before .before .before .before .before .before .before .before .before .before .before .before .before .args .set .now) (c .before .before .before .before .before .before .before .before .before .before .before .before .before .before .before .before .before .before .before .before .pre .0 .sized .passes) (surveyed (c .before .before .before .before .before .before) .1), c .before .before .before .before .before .before .before .before .before .before .before .before .before .before .before .before .before .before .before .before .pre .0 .sized .indexed, kept-begins (c .before .before .before .before .before .before .before .before .before .before .before .before .before .before .before .before .before .before .before .before .args .kept .now) (c .before .before .before .before .before .before .before .before .before .before .before .before .before .before .before .before .before .before .before .before .pre .1 .kept-is), order-begins (c .before .before .before .before .before .before .before .before .before .before .before .before .before .before .before .before .before .before .before .before .args .order .now) (c .before .before .before .before .before .before .before .before .before .before .before .before .before .before .before .before .before .before .before .before .pre .1 .order-is), rw (all-left (filledOf (c .before .before .before .before .before .before .before .before .before .before .before .before .before .before .before .before .before .before .before .before .args .table .now) (c .before .before .before .before .before .before .before .before .before .before .before .before .before .before .before .before .before .before .before .before .args .rows .now) (c .before .before .before .before .before .before .before .before .before .before .before .before .before .before .before .before .before .before .before .before .args .received .now) (c .before .before .before .before .before .before .before .before .before .before .before .before .before .before .before .before .before .before .before .before .args .set .now)) (c .before .before .before .before .before .before .before .before .before .before .before .before .before .before .before .before .before .before .before .before .args .order .now) (c .before .before .before .before .before .before .before .before .before .before .before .logged-len .result .octets) (setOf (c .before .before .before .before .before .before .before .before .before .before .before .logged-len .result .seen)) (setOf (c .before .before .before .before .before .before .a .given .0 .0 .seen)) (c .before .before .before .before .before .before .before .before .before .before .before .logged-len .ensures .tells) (surveyed (c .before .before .before .before .before .before) .2) (c .before .before .before .before .before .before .before .before .before .before .before .before .before .before .before .before .before .before .before .before .args .kept .now) (c .before .before .before .before .before .before .before .before .before .before .before .before .before .before .before .before .before .before .before .before .pre .1 .kept-is)) (omega (arith, (needed (filledOf (c .before .before .before .before .before .before .before .before .before .before .before .before .before .before .before .before .before .before .before .before .args .table .now) (c .before .before .before .before .before .before .before .before .before .before .before .before .before .before .before .before .before .before .before .before .args .rows .now) (c .before .before .before .before .before .before .before .before .before .before .before .before .before .before .before .before .before .before .before .before .args .received .now) (c .before .before .before .before .before .before .before .before .before .before .before .before .before .before .before .before .before .before .before .before .args .set .now)) (c .before .before .before .before .before .before .before .before .before .before .before .before .before .before .before .before .before .before .before .before .args .order .now) (c .before .before .before .before .before .before .before .before .before .before .before .logged-len .result .octets) (setOf (c .before .before .before .before .before .before .before .before .before .before .before .logged-len .result .seen)) (setOf (c .before .before .before .before .before .before .a .given .0 .0 .seen)) (c .before .before .before .before .before .before .before .before .before .before .before .logged-len .ensures .tells) (surveyed (c .before .before .before .before .before .before) .2) (c .before .before .before .before .before .before .before .before .before .before .before .before .before .before .before .before .before .before .before .before .pre .1 .es) (c .before .before .before .before .before .before .before .before .before .before .before .before .before .before .before .before .before .before .before .before .pre .1 .octets-are) (surveyed (c .before .before .before .before .before .before) .3)), c .before .if2 .left)))
+write-requires c κs = let a = c .before .before .before .before .before .before .before .before .before .before .before .before .before .before .before .before .before .before .before .args in let m = filledOf (a .table .now) (a .rows .now) (a .received .now) (a .set .now) in let k = kept-told (a .kept .now) (c .before .before .before .before .before .before .before .before .before .before .before .before .before .before .before .before .before .before .before .pre .2) in (writable (a .table .now) (a .rows .now) (a .received .now) (a .set .now) (c .before .before .before .before .before .before .before .before .before .before .before .before .before .before .before .before .before .before .before .pre .0 .sized .passes) (surveyed (c .before .before .before .before .before .before) .1), c .before .before .before .before .before .before .before .before .before .before .before .before .before .before .before .before .before .before .before .pre .0 .sized .indexed, kept-begins (a .kept .now) (k .kept-is), order-begins (a .order .now) (c .before .before .before .before .before .before .before .before .before .before .before .before .before .before .before .before .before .before .before .pre .1 .tells .is), rw (all-left m (a .order .now) (a .t .octets) (setOf (a .t .seen)) (setOf (c .before .before .before .before .before .before .a .given .0 .0 .seen)) (c .before .before .before .before .before .before .before .before .before .before .before .before .before .before .before .before .before .before .before .pre .1 .tells) (surveyed (c .before .before .before .before .before .before) .2) (a .kept .now) (k .kept-is)) (omega (arith, (needed m (a .order .now) (a .t .octets) (setOf (a .t .seen)) (setOf (c .before .before .before .before .before .before .a .given .0 .0 .seen)) (c .before .before .before .before .before .before .before .before .before .before .before .before .before .before .before .before .before .before .before .pre .1 .tells) (surveyed (c .before .before .before .before .before .before) .2) (k .es) (k .octets-are) (surveyed (c .before .before .before .before .before .before) .3)), c .before .if2 .left)))
 
 returns-3 : tie.Need-returns-3
-returns-3 c = bad-rows (c .before .before .before .before .before .before .before .before .before .before .before .before .before .before .args .table .now) (c .before .before .before .before .before .before .before .before .before .before .before .before .before .before .args .index .now) (c .before .before .before .before .before .before .before .before .before .before .before .before .before .before .args .rows .now) (c .before .before .before .before .before .before .before .before .before .before .before .before .before .before .args .received .now) (c .before .before .before .before .before .before .before .before .before .before .before .before .before .before .args .set .now) (c .before .before .before .before .before .before .before .before .before .before .before .before .before .before .args .kept .now) (c .before .before .before .before .before .before .before .before .before .before .before .before .before .before .args .order .now) (c .before .before .before .before .before .before .before .before .before .before .before .before .before .before .args .output .now) (c .before .before .before .before .before .before .before .before .before .before .before .before .before .before .pre .0) (c .before .before .before .before .before .logged-len .ensures .tells .ps) (c .before .before .before .before .before .logged-len .ensures .tells .is) (c .before .before .before .before .before .before .before .before .before .before .before .before .before .before .pre .1 .es) (c .before .before .before .before .before .before .before .before .before .before .before .before .before .before .pre .1 .kept-is) (sym (wrong-rows (filledOf (c .before .before .before .before .before .before .before .before .before .before .before .before .before .before .args .table .now) (c .before .before .before .before .before .before .before .before .before .before .before .before .before .before .args .rows .now) (c .before .before .before .before .before .before .before .before .before .before .before .before .before .before .args .received .now) (c .before .before .before .before .before .before .before .before .before .before .before .before .before .before .args .set .now)) (setOf (c .before .before .before .before .before .logged-len .result .seen)) (c .before .before .before .before .before .logged-len .ensures .tells .ps) (agreed (c .before .before .before .before))) ∙ rw (c .enum-told .given .1) at (c .before .before .survey .ensures))
+returns-3 c = let a = c .before .before .before .before .before .before .before .before .before .before .before .before .before .args in let m = filledOf (a .table .now) (a .rows .now) (a .received .now) (a .set .now) in let k = kept-told (a .kept .now) (c .before .before .before .before .before .before .before .before .before .before .before .before .before .pre .2) in bad-rows (a .table .now) (a .index .now) (a .rows .now) (a .received .now) (a .set .now) (a .kept .now) (a .order .now) (a .output .now) (c .before .before .before .before .before .before .before .before .before .before .before .before .before .pre .0) (c .before .before .before .before .before .before .before .before .before .before .before .before .before .pre .1 .tells .ps) (c .before .before .before .before .before .before .before .before .before .before .before .before .before .pre .1 .tells .is) (k .es) (k .kept-is) (sym (wrong-rows m (setOf (a .t .seen)) (c .before .before .before .before .before .before .before .before .before .before .before .before .before .pre .1 .tells .ps) (agreed (c .before .before .before .before))) ∙ rw (c .enum-told .given .1) at (c .before .before .survey .ensures))
 
 returns-4 : tie.Need-returns-4
-returns-4 c = let s = rw (c .before .k .given .1) at (c .before .before .before .survey .ensures) in no-fit (c .before .before .before .before .before .before .before .before .before .before .before .before .before .before .before .args .table .now) (c .before .before .before .before .before .before .before .before .before .before .before .before .before .before .before .args .index .now) (c .before .before .before .before .before .before .before .before .before .before .before .before .before .before .before .args .rows .now) (c .before .before .before .before .before .before .before .before .before .before .before .before .before .before .before .args .received .now) (c .before .before .before .before .before .before .before .before .before .before .before .before .before .before .before .args .set .now) (c .before .before .before .before .before .before .before .before .before .before .before .before .before .before .before .args .kept .now) (c .before .before .before .before .before .before .before .before .before .before .before .before .before .before .before .args .order .now) (c .before .before .before .before .before .before .before .before .before .before .before .before .before .before .before .args .output .now) (c .before .before .before .before .before .before .before .before .before .before .before .before .before .before .before .pre .0) (c .before .before .before .before .before .before .logged-len .ensures .tells .ps) (c .before .before .before .before .before .before .logged-len .ensures .tells .is) (c .before .before .before .before .before .before .before .before .before .before .before .before .before .before .before .pre .1 .es) (c .before .before .before .before .before .before .before .before .before .before .before .before .before .before .before .pre .1 .kept-is) (sym (wrong-rows (filledOf (c .before .before .before .before .before .before .before .before .before .before .before .before .before .before .before .args .table .now) (c .before .before .before .before .before .before .before .before .before .before .before .before .before .before .before .args .rows .now) (c .before .before .before .before .before .before .before .before .before .before .before .before .before .before .before .args .received .now) (c .before .before .before .before .before .before .before .before .before .before .before .before .before .before .before .args .set .now)) (setOf (c .before .before .before .before .before .before .logged-len .result .seen)) (c .before .before .before .before .before .before .logged-len .ensures .tells .ps) (agreed (c .before .before .before .before .before))) ∙ s .0) (s .1)
+returns-4 c = let a = c .before .before .before .before .before .before .before .before .before .before .before .before .before .before .args in let m = filledOf (a .table .now) (a .rows .now) (a .received .now) (a .set .now) in let k = kept-told (a .kept .now) (c .before .before .before .before .before .before .before .before .before .before .before .before .before .before .pre .2) in let s = rw (c .before .k .given .1) at (c .before .before .before .survey .ensures) in no-fit (a .table .now) (a .index .now) (a .rows .now) (a .received .now) (a .set .now) (a .kept .now) (a .order .now) (a .output .now) (c .before .before .before .before .before .before .before .before .before .before .before .before .before .before .pre .0) (c .before .before .before .before .before .before .before .before .before .before .before .before .before .before .pre .1 .tells .ps) (c .before .before .before .before .before .before .before .before .before .before .before .before .before .before .pre .1 .tells .is) (k .es) (k .kept-is) (sym (wrong-rows m (setOf (a .t .seen)) (c .before .before .before .before .before .before .before .before .before .before .before .before .before .before .pre .1 .tells .ps) (agreed (c .before .before .before .before .before))) ∙ s .0) (s .1)
 
 same-length : tie.Need-same-length
 same-length c = search needs
 
 returns-5 : tie.Need-returns-5
-returns-5 c = done (c .before .before .before .before .before .before .before .before .before .before .before .before .before .before .before .before .before .before .before .before .before .before .before .args .table .now) (c .before .before .before .before .before .before .before .before .before .before .before .before .before .before .before .before .before .before .before .before .before .before .before .args .index .now) (c .before .before .before .before .before .before .before .before .before .before .before .before .before .before .before .before .before .before .before .before .before .before .before .args .rows .now) (c .before .before .before .before .before .before .before .before .before .before .before .before .before .before .before .before .before .before .before .before .before .before .before .args .received .now) (c .before .before .before .before .before .before .before .before .before .before .before .before .before .before .before .before .before .before .before .before .before .before .before .args .set .now) (c .before .before .before .before .before .before .before .before .before .before .before .before .before .before .before .before .before .before .before .before .before .before .before .args .kept .now) (c .before .before .before .before .before .before .before .before .before .before .before .before .before .before .before .before .before .before .before .before .before .before .before .args .order .now) (c .before .before .before .before .before .before .before .before .before .before .before .before .before .before .before .before .before .before .before .before .before .before .before .args .output .now) (c .before .before .before .before .before .before .before .before .before .before .before .before .before .before .before .before .before .before .before .before .before .before .before .pre .0) (c .before .before .before .before .before .before .before .before .before .before .before .before .before .before .logged-len .ensures .tells .ps) (c .before .before .before .before .before .before .before .before .before .before .before .before .before .before .logged-len .ensures .tells .is) (c .before .before .before .before .before .before .before .before .before .before .before .before .before .before .before .before .before .before .before .before .before .before .before .pre .1 .es) (c .before .before .before .before .before .before .before .before .before .before .before .before .before .before .before .before .before .before .before .before .before .before .before .pre .1 .kept-is) (sym (wrong-rows (filledOf (c .before .before .before .before .before .before .before .before .before .before .before .before .before .before .before .before .before .before .before .before .before .before .before .args .table .now) (c .before .before .before .before .before .before .before .before .before .before .before .before .before .before .before .before .before .before .before .before .before .before .before .args .rows .now) (c .before .before .before .before .before .before .before .before .before .before .before .before .before .before .before .before .before .before .before .before .before .before .before .args .received .now) (c .before .before .before .before .before .before .before .before .before .before .before .before .before .before .before .before .before .before .before .before .before .before .before .args .set .now)) (setOf (c .before .before .before .before .before .before .before .before .before .before .before .before .before .before .logged-len .result .seen)) (c .before .before .before .before .before .before .before .before .before .before .before .before .before .before .logged-len .ensures .tells .ps) (agreed (c .before .before .before .before .before .before .before .before .before .before .before .before .before))) ∙ surveyed (c .before .before .before .before .before .before .before .before .before) .0) (surveyed (c .before .before .before .before .before .before .before .before .before) .1) _ (needed (filledOf (c .before .before .before .before .before .before .before .before .before .before .before .before .before .before .before .before .before .before .before .before .before .before .before .args .table .now) (c .before .before .before .before .before .before .before .before .before .before .before .before .before .before .before .before .before .before .before .before .before .before .before .args .rows .now) (c .before .before .before .before .before .before .before .before .before .before .before .before .before .before .before .before .before .before .before .before .before .before .before .args .received .now) (c .before .before .before .before .before .before .before .before .before .before .before .before .before .before .before .before .before .before .before .before .before .before .before .args .set .now)) (c .before .before .before .before .before .before .before .before .before .before .before .before .before .before .before .before .before .before .before .before .before .before .before .args .order .now) (c .before .before .before .before .before .before .before .before .before .before .before .before .before .before .logged-len .result .octets) (setOf (c .before .before .before .before .before .before .before .before .before .before .before .before .before .before .logged-len .result .seen)) (setOf (c .before .before .before .before .before .before .before .before .before .a .given .0 .0 .seen)) (c .before .before .before .before .before .before .before .before .before .before .before .before .before .before .logged-len .ensures .tells) (surveyed (c .before .before .before .before .before .before .before .before .before) .2) (c .before .before .before .before .before .before .before .before .before .before .before .before .before .before .before .before .before .before .before .before .before .before .before .pre .1 .es) (c .before .before .before .before .before .before .before .before .before .before .before .before .before .before .before .before .before .before .before .before .before .before .before .pre .1 .octets-are) (surveyed (c .before .before .before .before .before .before .before .before .before) .3)) (c .before .before .before .before .if2 .left) (rw (all-left (filledOf (c .before .before .before .before .before .before .before .before .before .before .before .before .before .before .before .before .before .before .before .before .before .before .before .args .table .now) (c .before .before .before .before .before .before .before .before .before .before .before .before .before .before .before .before .before .before .before .before .before .before .before .args .rows .now) (c .before .before .before .before .before .before .before .before .before .before .before .before .before .before .before .before .before .before .before .before .before .before .before .args .received .now) (c .before .before .before .before .before .before .before .before .before .before .before .before .before .before .before .before .before .before .before .before .before .before .before .args .set .now)) (c .before .before .before .before .before .before .before .before .before .before .before .before .before .before .before .before .before .before .before .before .before .before .before .args .order .now) (c .before .before .before .before .before .before .before .before .before .before .before .before .before .before .logged-len .result .octets) (setOf (c .before .before .before .before .before .before .before .before .before .before .before .before .before .before .logged-len .result .seen)) (setOf (c .before .before .before .before .before .before .before .before .before .a .given .0 .0 .seen)) (c .before .before .before .before .before .before .before .before .before .before .before .before .before .before .logged-len .ensures .tells) (surveyed (c .before .before .before .before .before .before .before .before .before) .2) (c .before .before .before .before .before .before .before .before .before .before .before .before .before .before .before .before .before .before .before .before .before .before .before .args .kept .now) (c .before .before .before .before .before .before .before .before .before .before .before .before .before .before .before .before .before .before .before .before .before .before .before .pre .1 .kept-is)) at (c .before .before .write .ensures))
+returns-5 c = let a = c .before .before .before .before .before .before .before .before .before .before .before .before .before .before .before .before .before .before .before .before .before .before .args in let m = filledOf (a .table .now) (a .rows .now) (a .received .now) (a .set .now) in let k = kept-told (a .kept .now) (c .before .before .before .before .before .before .before .before .before .before .before .before .before .before .before .before .before .before .before .before .before .before .pre .2) in done (a .table .now) (a .index .now) (a .rows .now) (a .received .now) (a .set .now) (a .kept .now) (a .order .now) (a .output .now) (c .before .before .before .before .before .before .before .before .before .before .before .before .before .before .before .before .before .before .before .before .before .before .pre .0) (c .before .before .before .before .before .before .before .before .before .before .before .before .before .before .before .before .before .before .before .before .before .before .pre .1 .tells .ps) (c .before .before .before .before .before .before .before .before .before .before .before .before .before .before .before .before .before .before .before .before .before .before .pre .1 .tells .is) (k .es) (k .kept-is) (sym (wrong-rows m (setOf (a .t .seen)) (c .before .before .before .before .before .before .before .before .before .before .before .before .before .before .before .before .before .before .before .before .before .before .pre .1 .tells .ps) (agreed (c .before .before .before .before .before .before .before .before .before .before .before .before .before))) ∙ surveyed (c .before .before .before .before .before .before .before .before .before) .0) (surveyed (c .before .before .before .before .before .before .before .before .before) .1) _ (needed m (a .order .now) (a .t .octets) (setOf (a .t .seen)) (setOf (c .before .before .before .before .before .before .before .before .before .a .given .0 .0 .seen)) (c .before .before .before .before .before .before .before .before .before .before .before .before .before .before .before .before .before .before .before .before .before .before .pre .1 .tells) (surveyed (c .before .before .before .before .before .before .before .before .before) .2) (k .es) (k .octets-are) (surveyed (c .before .before .before .before .before .before .before .before .before) .3)) (c .before .before .before .before .if2 .left) (rw (all-left m (a .order .now) (a .t .octets) (setOf (a .t .seen)) (setOf (c .before .before .before .before .before .before .before .before .before .a .given .0 .0 .seen)) (c .before .before .before .before .before .before .before .before .before .before .before .before .before .before .before .before .before .before .before .before .before .before .pre .1 .tells) (surveyed (c .before .before .before .before .before .before .before .before .before) .2) (a .kept .now) (k .kept-is)) at (c .before .before .write .ensures))
 
 pub encode-formed-spec : {M : Type 1} → statement M
-encode-formed-spec = tie.close (tie.spec logged-len-requires returns survey-requires enum-told enum-known-k enum-known-a add-need add-need-2 returns-2 write-requires returns-3 returns-4 same-length returns-5)
+encode-formed-spec = tie.close (tie.spec returns survey-requires enum-told enum-known-k enum-known-a add-need add-need-2 returns-2 write-requires returns-3 returns-4 same-length returns-5)

@@ -3,7 +3,6 @@
 use native.Mathlib.Omega.{arith}
 use mathlib.Core.Path.{_≡_, ap, sym, _∙_}
 use mathlib.Core.Bool.{not}
-use lib.ListN.{length}
 use Rattle.definitions.specs.Values.{unfitAt}
 use Rattle.values.specs.Rows.{valueOf, sourcesOf}
 use Rattle.definitions.specs.Rows.{rowsOf}
@@ -41,7 +40,7 @@ unfit : (c : tie.After-does-fit) → unfitAt (rowsOf (c .before .before .before 
 unfit c = unfit-there (c .before .before .before .before .before .before .before .before .before .before .before .before .before .args .table .now) (c .before .before .before .before .before .before .before .before .before .before .before .before .before .args .rows .now) (c .before .before .before .before .before .before .before .before .before .before .before .before .before .args .received .now) (c .before .before .before .before .before .before .before .before .before .before .before .before .before .args .set .now) (c .before .before .before .before .before .before .before .before .before .before .before .before .before .args .place) (c .before .before .before .before .before .before .row-at .result) (c .before .before .before .before .before .before .row-at .ensures) (c .before .before .before .before .if2 .left) ∙ ap not (sym (rw (form-there (c .before .before .before .before .before .before .before .before .before .before .before .before .before .args .table .now) (c .before .before .before .before .before .before .before .before .before .before .before .before .before .args .place) (c .before .before .before .before .before .before .before .before .before .before .before .before .before .pre .0) (c .before .before .before .numbers-at .ensures) (c .before .before .form-of .ensures), c .before .value-octets .ensures .0) at (c .does-fit .ensures)))
 
 returns-3 : tie.Need-returns-3
-returns-3 c = unfit (c .before) ∙ c .if3 .taken
+returns-3 c = (sym (c .before .before .before .before .before .before .before .before .before .is-wrong .ensures) ∙ c .before .before .before .before .before .before .before .before .if1 .left, unfit (c .before) ∙ c .if3 .taken)
 
 ie-len-requires : tie.Need-ie-len-requires
 ie-len-requires c κs = let l = octets-short (c .before .before .before .before .before .before .before .before .before .before .before .before .before .before .args .received .now) (c .before .before .before .before .before .before .before .before .before .before .before .before .before .before .args .set .now) (c .before .before .before .before .before .before .before .before .before .before .before .before .before .before .pre .1) (c .before .before .before .before .before .before .before .before .before .before .before .before .before .before .pre .2) (valueOf (c .before .before .before .before .before .before .before .row-at .result)) in rw (c .before .before .value-octets .ensures .0) (omega arith)

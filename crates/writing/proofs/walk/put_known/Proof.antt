@@ -37,11 +37,11 @@ low c = place-low (rowsOf (c .before .before .before .before .before .before .be
 room : (c : tie.After-k) → let a = c .before .before .before .before .before .before .before .before .before .args in let m = filledOf (a .table .now) (a .rows .now) (a .received .now) (a .set .now) in a .pen .at + length (addedOctets m (setOf (a .added)) (a .pen .place) (c .k .given .0 .0) ++ elementAt m (c .k .given .0 .0) (a .iei)) ≤ length (a .output .now)
 room c = rw (at-place c) at (c .before .before .before .before .before .before .before .before .before .pre .2)
 
-put-added-requires : tie.Need-put-added-requires
-put-added-requires c κs = let a = c .before .before .before .before .before .before .before .before .before .before .before .args in let m = (filledOf (a .table .now) (a .rows .now) (a .received .now) (a .set .now)) in (c .before .before .before .before .before .before .before .before .before .before .before .pre .0, omega (arith, low (c .before .before)), omega (arith, room (c .before .before), length-append (addedOctets m (setOf (a .added)) (a .pen .place) (c .before .before .k .given .0 .0)) (elementAt m (c .before .before .k .given .0 .0) (a .iei))))
+put-lower-requires : tie.Need-put-lower-requires
+put-lower-requires c κs = let a = c .before .before .before .before .before .before .before .before .before .before .before .args in let m = (filledOf (a .table .now) (a .rows .now) (a .received .now) (a .set .now)) in (c .before .before .before .before .before .before .before .before .before .before .before .pre .0, omega (arith, low (c .before .before)), omega (arith, room (c .before .before), length-append (addedOctets m (setOf (a .added)) (a .pen .place) (c .before .before .k .given .0 .0)) (elementAt m (c .before .before .k .given .0 .0) (a .iei))))
 
 put-place-requires : tie.Need-put-place-requires
-put-place-requires c κs = let a = c .before .before .before .before .before .before .before .before .before .before .before .before .before .before .before .args in let m = (filledOf (a .table .now) (a .rows .now) (a .received .now) (a .set .now)) in (c .before .before .before .before .before .before .before .before .before .before .before .before .before .before .before .pre .0, low (c .before .before .before .before .before .before), listed (rowsOf (a .table .now)) (a .iei) (c .before .before .before .before .before .before .k .given .0 .0) (c .before .before .before .before .before .before .before .before .before .before .before .before .before .before .before .pre .0 .passes) (at-place (c .before .before .before .before .before .before)) .formed, second-room (addedOctets m (setOf (a .added)) (a .pen .place) (c .before .before .before .before .before .before .k .given .0 .0)) (elementAt m (c .before .before .before .before .before .before .k .given .0 .0) (a .iei)) (room (c .before .before .before .before .before .before)) (c .before .before .before .put-added .ensures))
+put-place-requires c κs = let a = c .before .before .before .before .before .before .before .before .before .before .before .before .before .before .before .args in let m = (filledOf (a .table .now) (a .rows .now) (a .received .now) (a .set .now)) in (c .before .before .before .before .before .before .before .before .before .before .before .before .before .before .before .pre .0, low (c .before .before .before .before .before .before), listed (rowsOf (a .table .now)) (a .iei) (c .before .before .before .before .before .before .k .given .0 .0) (c .before .before .before .before .before .before .before .before .before .before .before .before .before .before .before .pre .0 .passes) (at-place (c .before .before .before .before .before .before)) .formed, second-room (addedOctets m (setOf (a .added)) (a .pen .place) (c .before .before .before .before .before .before .k .given .0 .0)) (elementAt m (c .before .before .before .before .before .before .k .given .0 .0) (a .iei)) (room (c .before .before .before .before .before .before)) (c .before .before .before .put-lower .ensures))
 
 higher-requires : tie.Need-higher-requires
 higher-requires c κs = search needs
@@ -53,7 +53,7 @@ same-length : tie.Need-same-length
 same-length c = search needs
 
 returns : tie.Need-returns
-returns c = let a = c .before .before .before .before .before .before .before .before .before .before .before .before .before .before .before .before .before .before .before .args in let m = (filledOf (a .table .now) (a .rows .now) (a .received .now) (a .set .now)) in rw (at-place (c .before .before .before .before .before .before .before .before .before .before)) (put-both (addedOctets m (setOf (a .added)) (a .pen .place) (c .before .before .before .before .before .before .before .before .before .before .k .given .0 .0)) (elementAt m (c .before .before .before .before .before .before .before .before .before .before .k .given .0 .0) (a .iei)) (room (c .before .before .before .before .before .before .before .before .before .before)) (c .before .before .before .before .before .before .before .put-added .ensures) (c .before .before .before .put-place .ensures), refl, c .higher .ensures)
+returns c = let a = c .before .before .before .before .before .before .before .before .before .before .before .before .before .before .before .before .before .before .before .args in let m = (filledOf (a .table .now) (a .rows .now) (a .received .now) (a .set .now)) in rw (at-place (c .before .before .before .before .before .before .before .before .before .before)) (put-both (addedOctets m (setOf (a .added)) (a .pen .place) (c .before .before .before .before .before .before .before .before .before .before .k .given .0 .0)) (elementAt m (c .before .before .before .before .before .before .before .before .before .before .k .given .0 .0) (a .iei)) (room (c .before .before .before .before .before .before .before .before .before .before)) (c .before .before .before .before .before .before .before .put-lower .ensures) (c .before .before .before .put-place .ensures), refl, c .higher .ensures)
 
 returns-2 : tie.Need-returns-2
 returns-2 c = rw (sym (found (c .before .before)) ∙ ap placeAs (c .enum-told .given .1)) (put-nothing (c .before .before .before .before .before .before .before .before .before .args .pen .at) (c .before .before .before .before .before .before .before .before .before .args .output .now), refl, refl)
@@ -64,7 +64,7 @@ put-known-spec =
     (tie.spec
     place-of-requires
     enum-known-k
-    put-added-requires
+    put-lower-requires
     put-place-requires
     higher-requires
     enum-told
