@@ -1,18 +1,20 @@
--- Laws of a text of hex digits: an octet of it by its tests; a text by the octet at its front; a buffer that is written octet by octet.
+-- Laws of a text of hex digits: an octet of it by its tests; a step at a time against pairs; a buffer that is written octet by octet.
 -- Each goes by the definition, with its tests known.
-use Prim.Native.Nat.{ℕ, zero, suc, _+_, _*_, _-_, _≤_, _<_}
+use Prim.Native.Nat.{ℕ, suc, _+_, _*_, _-_, _≤_, _<_}
 use native.Mathlib.Omega.{arith}
 use mathlib.Core.Path.{_≡_, refl, ap, sym, subst, _∙_}
 use mathlib.Core.List.{List, [], _∷_, _++_, append-assoc}
 use mathlib.Core.Bool.{Bool, true, false}
 use lib.ListN.{length, getD, take, drop, set, length-append, drop-of-length-le}
 use lib.Seq.{drop-cons, drop-drop, sets-eq}
+use lib.Dec.{eqb, ltb}
 use borrow.Author.Tests.{lt-ltb, le-ltb, le-leb, lt-leb, eq-eqb, ne-eqb}
 use Rattle.definitions.specs.Basic.{pick, among, over, overAt}
 use Rattle.definitions.proofs.Lists.{over-none, over-next}
 use Rattle.arguments.specs.declared.hex.Ends.{Ends}
 use Rattle.arguments.specs.declared.hex.Step.{Step}
-use Rattle.arguments.specs.Hex.{isBlank, digitOf, firstOf, secondOf, stepOf, Hex, ended, behind, hexFrom, hexOf}
+use Rattle.arguments.specs.Hex.{isBlank, digitOf, isDigit, Hex, ended, behind, pairOf, hexFrom, hexOf}
+use Rattle.arguments.specs.Steps.{firstOf, secondOf, stepOf, steppedFrom}
 
 -- ---- an octet of text
 
@@ -86,13 +88,75 @@ module _ (i x : ℕ) where
     unfolding stepOf
     step-first l = rw (le-ltb half 16 l)
 
-pub end-odd : (i half : ℕ) → half < 16 → Ends.Odd (i - 1) ≡ hexFrom 0 i half [] .ends
-unfolding hexFrom
+pub end-odd : (i half : ℕ) → half < 16 → Ends.Odd (i - 1) ≡ steppedFrom 0 i half [] .ends
+unfolding steppedFrom
 end-odd i half l = rw (lt-ltb half 16 l)
 
-pub end-good : (i half : ℕ) → 16 ≤ half → Ends.Good ≡ hexFrom 0 i half [] .ends
-unfolding hexFrom
+pub end-good : (i half : ℕ) → 16 ≤ half → Ends.Good ≡ steppedFrom 0 i half [] .ends
+unfolding steppedFrom
 end-good i half l = rw (le-ltb half 16 l)
+
+-- ---- an octet of text at a time, and two
+
+-- the octet of text behind a digit
+with-second : (room at d y : ℕ) (s : List ℕ) (rest : Hex) → eqb room 0 ≡ false → ltb d 16 ≡ true → steppedFrom (room - 1) (suc (suc at)) 16 s ≡ rest
+    → steppedFrom room (suc at) d (y ∷ s)
+    ≡ pick (isBlank y) (ended (Ends.Odd at)) (pick (isDigit y) (behind (16 * d + digitOf y) rest) (ended (Ends.NoDigit (suc at))))
+unfolding steppedFrom stepOf secondOf
+with-second room at d y s rest r l e = let z : suc at - 1 ≡ at = omega arith in rw (r, l) (by (isBlank y) (isDigit y) z)
+  where
+    by : (b c : Bool) → suc at - 1 ≡ at
+        → elim (pick b (Step.Wrong (Ends.Odd (suc at - 1))) (pick c (Step.Octet (16 * d + digitOf y)) (Step.Wrong (Ends.NoDigit (suc at))))) [
+          | Step.Waits h ↦ steppedFrom room (suc (suc at)) h s
+          | Step.Octet n ↦ behind n (steppedFrom (room - 1) (suc (suc at)) 16 s)
+          | Step.Wrong w ↦ ended w
+        ]
+        ≡ pick b (ended (Ends.Odd at)) (pick c (behind (16 * d + digitOf y) rest) (ended (Ends.NoDigit (suc at))))
+    by true c z = ap (λ (n : ℕ). ended (Ends.Odd n)) z
+    by false true z = ap (behind (16 * d + digitOf y)) e
+    by false false z = refl
+
+-- two octets of text, by whether the first is a digit
+module _ (at x y : ℕ) (rest : Hex) where
+  paired-with : isDigit x ≡ true → pick (isBlank y) (ended (Ends.Odd at)) (pick (isDigit y) (behind (16 * digitOf x + digitOf y) rest) (ended (Ends.NoDigit (suc at)))) ≡ pairOf at x y rest
+  unfolding pairOf
+  paired-with e = rw e
+
+  paired-not : isDigit x ≡ false → ended (Ends.NoDigit at) ≡ pairOf at x y rest
+  unfolding pairOf
+  paired-not e = rw e
+
+-- a text that is decoded a step at a time is the text by pairs
+pub by-pairs : (room at : ℕ) (text : List ℕ) → steppedFrom room at 16 text ≡ hexFrom room at text
+unfolding steppedFrom hexFrom stepOf firstOf
+by-pairs room at [] = refl
+by-pairs room at (x ∷ []) = by (eqb room 0) (isBlank x) (isDigit x) refl
+  where
+    by : (r b c : Bool) → isDigit x ≡ c
+        → pick r (ended Ends.Good) (elim (pick b (Step.Waits 16) (pick c (Step.Waits (digitOf x)) (Step.Wrong (Ends.NoDigit at)))) [
+          | Step.Waits h ↦ steppedFrom room (suc at) h []
+          | Step.Octet n ↦ behind n (steppedFrom (room - 1) (suc at) 16 [])
+          | Step.Wrong w ↦ ended w
+        ])
+        ≡ pick r (ended Ends.Good) (pick b (ended Ends.Good) (ended (pick c (Ends.Odd at) (Ends.NoDigit at))))
+    by true b c q = refl
+    by false true c q = refl
+    by false false true q = let z : suc at - 1 ≡ at = omega arith in rw q (ap (λ (n : ℕ). ended (Ends.Odd n)) z)
+    by false false false q = refl
+by-pairs room at (x ∷ y ∷ s) = by (eqb room 0) (isBlank x) (isDigit x) refl refl (by-pairs room (suc at) (y ∷ s)) (by-pairs (room - 1) (suc (suc at)) s)
+  where
+    by : (r b c : Bool) → eqb room 0 ≡ r → isDigit x ≡ c → steppedFrom room (suc at) 16 (y ∷ s) ≡ hexFrom room (suc at) (y ∷ s)
+        → steppedFrom (room - 1) (suc (suc at)) 16 s ≡ hexFrom (room - 1) (suc (suc at)) s
+        → pick r (ended Ends.Good) (elim (pick b (Step.Waits 16) (pick c (Step.Waits (digitOf x)) (Step.Wrong (Ends.NoDigit at)))) [
+          | Step.Waits h ↦ steppedFrom room (suc at) h (y ∷ s)
+          | Step.Octet n ↦ behind n (steppedFrom (room - 1) (suc at) 16 (y ∷ s))
+          | Step.Wrong w ↦ ended w
+        ])
+        ≡ pick r (ended Ends.Good) (pick b (hexFrom room (suc at) (y ∷ s)) (pairOf at x y (hexFrom (room - 1) (suc (suc at)) s)))
+    by true b c q p f g = refl
+    by false true c q p f g = f
+    by false false true q p f g = with-second room at (digitOf x) y s (hexFrom (room - 1) (suc (suc at)) s) q p g ∙ paired-with at x y (hexFrom (room - 1) (suc (suc at)) s) p
+    by false false false q p f g = paired-not at x y (hexFrom (room - 1) (suc (suc at)) s) p
 
 -- ---- a buffer with what is left of a text still to come
 
@@ -104,13 +168,15 @@ pub record Goes (h w : Hex) (part₀ part : List ℕ) (len : ℕ) : Type 0 where
 
 -- what is left at a position
 abbrev pub Left : List ℕ → List ℕ → List ℕ → ℕ → ℕ → ℕ → Type 0
-Left text part₀ part len half i = Goes (hexFrom (length part₀ - len) i half (drop i text)) (hexOf (length part₀) text) part₀ part len
+Left text part₀ part len half i = Goes (steppedFrom (length part₀ - len) i half (drop i text)) (hexOf (length part₀) text) part₀ part len
 
 pub at-start : (text part : List ℕ) → Left text part part 0 16 0
 unfolding overAt
 at-start text part =
     let e : length part ≡ length part - 0 = omega arith in
-    subst (λ (n : ℕ). Goes (hexFrom n 0 16 text) (hexOf (length part) text) part part 0) e (record { count = omega arith; ends = refl; out = refl })
+    let p = sym (by-pairs (length part) 0 text) in
+    subst (λ (n : ℕ). Goes (steppedFrom n 0 16 text) (hexOf (length part) text) part part 0) e
+    (subst (λ (h : Hex). Goes h (hexOf (length part) text) part part 0) p (record { count = omega arith; ends = refl; out = refl }))
 
 pub all-told : {e : Ends} {w : Hex} {part₀ part : List ℕ} {len : ℕ} → Goes (ended e) w part₀ part len
     → (len ≡ length (w .octets)) × ((e ≡ w .ends) × (part ≡ over (w .octets) part₀))
@@ -137,39 +203,39 @@ module _ (text part₀ part : List ℕ) (len half i : ℕ) where
   abbrev Whole : Hex → Type 0
   Whole h = Goes h (hexOf (length part₀) text) part₀ part len
 
-  pub at-end : length text ≤ i → Left text part₀ part len half i → Whole (ended (hexFrom 0 i half [] .ends))
-  unfolding hexFrom
-  at-end l g = subst (λ (s : List ℕ). Whole (hexFrom (length part₀ - len) i half s)) (drop-of-length-le text l) g
+  pub at-end : length text ≤ i → Left text part₀ part len half i → Whole (ended (steppedFrom 0 i half [] .ends))
+  unfolding steppedFrom
+  at-end l g = subst (λ (s : List ℕ). Whole (steppedFrom (length part₀ - len) i half s)) (drop-of-length-le text l) g
 
   module _ (l : i < length text) where
     pub when-full : length part₀ ≤ len → Left text part₀ part len half i → Whole (ended Ends.Good)
-    unfolding hexFrom
+    unfolding steppedFrom
     when-full f g = subst Whole e g
       where
-        e : hexFrom (length part₀ - len) i half (drop i text) ≡ ended Ends.Good
+        e : steppedFrom (length part₀ - len) i half (drop i text) ≡ ended Ends.Good
         e = rw (drop-cons text i 0 l, eq-eqb (length part₀ - len) 0 (omega arith))
 
     module _ (room : len < length part₀) {r : Step} (s : r ≡ stepOf i half (getD text i 0)) where
       pub when-wrong : {e : Ends} → r ≡ Step.Wrong e → Left text part₀ part len half i → Whole (ended e)
-      unfolding hexFrom
+      unfolding steppedFrom
       when-wrong {e = e} q g = subst Whole p g
         where
-          p : hexFrom (length part₀ - len) i half (drop i text) ≡ ended e
+          p : steppedFrom (length part₀ - len) i half (drop i text) ≡ ended e
           p = rw (drop-cons text i 0 l, ne-eqb (length part₀ - len) 0 (λ z. omega arith), ← s, q)
 
       pub when-waits : {h len′ half′ : ℕ} {part′ : List ℕ} → r ≡ Step.Waits h → part′ ≡ part → len′ ≡ len → half′ ≡ h
           → Left text part₀ part len half i → Left text part₀ part′ len′ half′ (i + 1)
-      unfolding hexFrom
+      unfolding steppedFrom
       when-waits {h = h} q a b c g = rw (a, b, c) (subst Whole p g)
         where
-          p : hexFrom (length part₀ - len) i half (drop i text) ≡ hexFrom (length part₀ - len) (i + 1) h (drop (i + 1) text)
+          p : steppedFrom (length part₀ - len) i half (drop i text) ≡ steppedFrom (length part₀ - len) (i + 1) h (drop (i + 1) text)
           p = let n : i + 1 ≡ suc i = omega arith in rw (n, drop-cons text i 0 l, ne-eqb (length part₀ - len) 0 (λ z. omega arith), ← s, q)
 
       pub when-octet : {n len′ half′ : ℕ} {part′ : List ℕ} → r ≡ Step.Octet n → len < length part → part′ ≡ set part len n → len′ ≡ len + 1 → half′ ≡ 16
           → Left text part₀ part len half i → Left text part₀ part′ len′ half′ (i + 1)
-      unfolding hexFrom
+      unfolding steppedFrom
       when-octet {n = n} q f a b c g = rw (a, b, c) (one-more part len n f (subst Whole p g))
         where
-          p : hexFrom (length part₀ - len) i half (drop i text) ≡ behind n (hexFrom (length part₀ - (len + 1)) (i + 1) 16 (drop (i + 1) text))
+          p : steppedFrom (length part₀ - len) i half (drop i text) ≡ behind n (steppedFrom (length part₀ - (len + 1)) (i + 1) 16 (drop (i + 1) text))
           p = let m : i + 1 ≡ suc i = omega arith in let k : length part₀ - (len + 1) ≡ length part₀ - len - 1 = omega arith in
               rw (m, k, drop-cons text i 0 l, ne-eqb (length part₀ - len) 0 (λ z. omega arith), ← s, q)

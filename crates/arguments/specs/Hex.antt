@@ -5,7 +5,6 @@ use mathlib.Core.Bool.{Bool, _&&_}
 use lib.Dec.{eqb, ltb, leb}
 use Rattle.definitions.specs.Basic.{pick, among}
 use Rattle.arguments.specs.declared.hex.Ends.{Ends}
-use Rattle.arguments.specs.declared.hex.Step.{Step}
 
 -- space, tab, newline, carriage return
 unfoldable pub isBlank : ℕ → Bool
@@ -16,17 +15,8 @@ unfoldable pub digitOf : ℕ → ℕ
 digitOf x =
     pick (leb 48 x && ltb x 58) (x - 48) (pick (leb 65 x && ltb x 71) (x - 55) (pick (leb 97 x && ltb x 103) (x - 87) 16))
 
--- an octet of text at a position where none waits, and behind a digit of so much that waits for its second: what waits then (16 where
--- none does), an octet, or what is wrong
-unfoldable pub firstOf : ℕ → ℕ → Step
-firstOf at x = pick (isBlank x) (Step.Waits 16) (pick (ltb (digitOf x) 16) (Step.Waits (digitOf x)) (Step.Wrong (Ends.NoDigit at)))
-
-unfoldable pub secondOf : ℕ → ℕ → ℕ → Step
-secondOf at half x =
-    pick (isBlank x) (Step.Wrong (Ends.Odd (at - 1))) (pick (ltb (digitOf x) 16) (Step.Octet (16 * half + digitOf x)) (Step.Wrong (Ends.NoDigit at)))
-
-unfoldable pub stepOf : ℕ → ℕ → ℕ → Step
-stepOf at half x = pick (ltb half 16) (secondOf at half x) (firstOf at x)
+abbrev pub isDigit : ℕ → Bool
+isDigit x = ltb (digitOf x) 16
 
 -- the octets of a text, and how it ends: well, or with the position of the first octet of text that is wrong
 pub record Hex : Type 0 where
@@ -39,15 +29,19 @@ ended e = record { octets = []; ends = e }
 abbrev pub behind : ℕ → Hex → Hex
 behind x h = record { octets = x ∷ h .octets; ends = h .ends }
 
+-- two digits are an octet, with the rest behind it; a digit in front of a blank is odd
+unfoldable pub pairOf : ℕ → ℕ → ℕ → Hex → Hex
+pairOf at x y rest =
+    pick (isDigit x)
+    (pick (isBlank y) (ended (Ends.Odd at)) (pick (isDigit y) (behind (16 * digitOf x + digitOf y) rest) (ended (Ends.NoDigit (suc at)))))
+    (ended (Ends.NoDigit at))
+
 -- from a position on, at most so many octets: what stands behind those is not looked at
-unfoldable pub hexFrom : ℕ → ℕ → ℕ → List ℕ → Hex
-hexFrom room at half [] = ended (pick (ltb half 16) (Ends.Odd (at - 1)) Ends.Good)
-hexFrom room at half (x ∷ xs) =
-    pick (eqb room 0) (ended Ends.Good) (elim (stepOf at half x) [
-      | Step.Waits h ↦ hexFrom room (suc at) h xs
-      | Step.Octet n ↦ behind n (hexFrom (room - 1) (suc at) 16 xs)
-      | Step.Wrong e ↦ ended e
-    ])
+unfoldable pub hexFrom : ℕ → ℕ → List ℕ → Hex
+hexFrom room at [] = ended Ends.Good
+hexFrom room at (x ∷ []) = pick (eqb room 0) (ended Ends.Good) (pick (isBlank x) (ended Ends.Good) (ended (pick (isDigit x) (Ends.Odd at) (Ends.NoDigit at))))
+hexFrom room at (x ∷ y ∷ s) =
+    pick (eqb room 0) (ended Ends.Good) (pick (isBlank x) (hexFrom room (suc at) (y ∷ s)) (pairOf at x y (hexFrom (room - 1) (suc (suc at)) s)))
 
 abbrev pub hexOf : ℕ → List ℕ → Hex
-hexOf room text = hexFrom room 0 16 text
+hexOf room text = hexFrom room 0 text

@@ -4,7 +4,8 @@ ghost use Prim.Native.Nat.{_+_, _*_, _≤_, _<_};
 ghost use mathlib.Core.List.{[]};
 ghost use lib.ListN.{length};
 ghost use Rattle.definitions.specs.Basic.{over};
-ghost use Rattle.arguments.specs.Hex.{isBlank, digitOf, firstOf, secondOf, stepOf, hexFrom, hexOf};
+ghost use Rattle.arguments.specs.Hex.{isBlank, digitOf, hexOf};
+ghost use Rattle.arguments.specs.Steps.{firstOf, secondOf, stepOf, steppedFrom};
 
 // How a text ends: well; at an octet that is no digit and no blank; at a digit that has no second one behind it.
 pub enum Ends {
@@ -117,7 +118,7 @@ fn step_at(i: usize, half: u8, x: u8) -> Step
 // Behind the text.
 fn end_at(i: usize, half: u8) -> Ends
     requires { ⌜ 16 ≤ half + 16 * i ⌝ }
-    ensures { λ r. ⌜ r ≡ hexFrom 0 i half [] .ends ⌝ }
+    ensures { λ r. ⌜ r ≡ steppedFrom 0 i half [] .ends ⌝ }
 {
     if half < NONE {
         Ends::Odd(i - 1)
