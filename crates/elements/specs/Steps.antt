@@ -3,14 +3,15 @@ use Prim.Native.Nat.{ℕ, _+_, max}
 use mathlib.Core.List.{List}
 use mathlib.Core.Bool.{Bool}
 use mathlib.Core.Option.{Option, none, some, Option·getD}
-use lib.ListN.{length}
-use lib.Dec.{eqb}
-use Rattle.definitions.specs.Basic.{pick}
-use Rattle.definitions.specs.Rows.{Row, form}
-use Rattle.definitions.specs.Length.{whole, required}
+use lib.ListN.{length, getD, drop}
+use lib.Dec.{eqb, ltb}
+use Rattle.definitions.specs.Basic.{pick, bit}
+use Rattle.definitions.specs.Rows.{Row, form, ieiOf}
+use Rattle.definitions.specs.Length.{whole, unknownLength, missing, required}
 use Rattle.definitions.specs.Elements.{Verdict, accepted, unknown, malformed, repeated, outOfSequence, judged, taken, octetsOf, Element as DefElement, ieiAt, Met, Step as DefStep, next, cut, ended}
 use Rattle.order.specs.declared.Placed.{Placed}
 use Rattle.order.specs.declared.IgnoredIeReason.{IgnoredIeReason}
+use Rattle.rows.specs.Numbers.{numbersAt, rowSaid}
 use Rattle.seen.specs.Seen.{setOf, seenOf, includingPlace}
 use Rattle.elements.specs.declared.element.State.{State}
 use Rattle.elements.specs.declared.element.Element.{Element}
@@ -69,3 +70,19 @@ stateAfter s k n = stateAt s k (s .at + n)
 abbrev pub foundAt : State → ℕ → ℕ → ℕ → ℕ → Came → Step
 foundAt s x iei k left (Came.Is n p) = Step.Next (record { start = s .at; len = n; iei = iei; place = k; placed = p }) (stateAfter s k n)
 foundAt s x iei k left (Came.Cut m) = Step.Cut (s .at) x left m
+
+-- ---- by a table and any index
+
+-- how an element came, by its first octet, its IEI and the entry that an index has for it
+abbrev pub cameBy : List ℕ → ℕ → Bool → State → List ℕ → ℕ → ℕ → ℕ → Came
+cameBy table start option s left x iei k =
+    pick (eqb k 255) (cameStrange x (missing start left) left (unknownLength start left))
+    (cameKnown (rowSaid (numbersAt table k)) iei option (bit k (setOf (s .seen))) (ltb k (s .highest)) left)
+
+-- what stands at a state's position: by the index of a table that passes its check, the definition's step
+unfoldable pub stepBy : List ℕ → List ℕ → ℕ → Bool → List ℕ → State → Step
+stepBy table index start option part s =
+    let left : List ℕ = drop (s .at) part in
+    let x : ℕ = getD part (s .at) 0 in
+    let k : ℕ = getD index (ieiOf x) 0 in
+    pick (ltb (s .at) (length part)) (foundAt s x (ieiOf x) k (length left) (cameBy table start option s left x (ieiOf x) k)) Step.End

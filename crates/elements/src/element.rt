@@ -26,7 +26,7 @@ ghost use Rattle.definitions.specs.Elements.{takenBy, judged, step};
 ghost use Rattle.length.specs.Answers.{lengthOf};
 ghost use Rattle.rows.specs.Forms.{formAs};
 ghost use Rattle.rows.specs.Numbers.{rowSaid};
-ghost use Rattle.elements.specs.Steps.{placedFor, fitOf, cameKnown, cameStrange, stateAt, stepOf, metOf};
+ghost use Rattle.elements.specs.Steps.{placedFor, fitOf, cameKnown, cameStrange, stateAt, stepOf, stepBy, metOf};
 ghost use Rattle.rows.specs.Indexed.{Indexed};
 
 // No place: an IEI that no row lists.
@@ -258,8 +258,8 @@ pub fn after(state: State, place: usize, at: usize) -> State
     }
 }
 
-// What stands at a state's position, by a table that passes its check and its index.
-pub(crate) fn element_step(
+// What stands at a state's position, by a table and an index: by its own index, of a table that passes its check, the step of reading.
+pub fn element_step(
     part: &[u8],
     table: &[u32],
     index: &[u8; 256],
@@ -267,8 +267,8 @@ pub(crate) fn element_step(
     option: bool,
     state: State,
 ) -> Step
-    requires { ⌜ Indexed (now table) (now index) ⌝ }
-    ensures { λ r. ⌜ r ≡ stepOf (step (rowsOf (now (table .entry))) «tlve_start» option (metOf state) (state .at) (drop (state .at) (now (part .entry)))) ⌝ }
+    ensures { λ r. ⌜ r ≡ stepBy (now (table .entry)) (now (index .entry)) «tlve_start» option (now (part .entry)) state ⌝ }
+    ensures { λ r. ⌜ (Indexed (now (table .entry)) (now (index .entry)) → r ≡ stepOf (step (rowsOf (now (table .entry))) «tlve_start» option (metOf state) (state .at) (drop (state .at) (now (part .entry))))) ⌝ }
 {
     let at = state.at;
     if at >= part.len() {

@@ -8,15 +8,10 @@ use crate::fill::note;
 use crate::measure::Measured;
 use crate::measure::measure;
 use crate::plain::plain_many;
-use elements::element::Came;
 use elements::element::Element;
-use elements::element::NO_PLACE;
-use elements::element::State;
-use elements::element::after;
-use elements::element::came_known;
-use elements::element::came_unknown;
-use elements::element::entry_of;
-use elements::element::iei_of;
+use elements::element::Step;
+use elements::element::element_step;
+use elements::next::start_state;
 use numbered::Loaded;
 use numbered::TLVE_START;
 use numbered::load;
@@ -24,10 +19,7 @@ use octets::MOST_OCTETS;
 use order::Placed;
 use rows::check::Checked;
 use rows::check::check_and_index;
-use rows::columns::numbers_at;
 use rows::columns::places;
-use seen::Seen;
-use seen::seen_has;
 ghost use mathlib.Core.Path.{_≡_};
 ghost use mathlib.Core.Option.{none};
 ghost use mathlib.Core.Bool.{false};
@@ -59,7 +51,7 @@ fn keep_here(octets: &[u8], e: Element, block: &mut [u8], used: usize) -> usize
 }
 
 // Every element of a part, into rows and the two parts of a block, which have room: the octets up to the seam, and those from there on.
-// As `fill_elements` does, with both logs in one slice, since two parts of one cannot be lent at once.
+// What `fill_elements` does, with both logs in one slice, since two parts of one cannot be lent at once.
 fn fill_parts(
     octets: &[u8],
     table: &[u32],
@@ -73,47 +65,23 @@ fn fill_parts(
     requires { ⌜ Ready (now table) (now index) «tlve_start» option (now octets) (now rows) (take seam (now block)) (drop seam (now block)) × (seam ≤ length (now block)) ⌝ }
     ensures { λ r. ⌜ outcome r (now (rows .exit)) (take seam (now (block .exit))) (drop seam (now (block .exit))) ≡ filledFrom (rowsOf (now (table .entry))) (parted (rowsOf (now (table .entry))) «tlve_start» option (now (octets .entry))) 0 0 (now (rows .entry)) (take seam (now (block .entry))) (drop seam (now (block .entry))) ⌝ }
 {
-    let mut state = State {
-        at: 0,
-        seen: Seen { low: 0, high: 0 },
-        highest: 0,
-    };
+    let mut state = start_state();
     let mut k = 0;
     let mut o = seam;
     loop {
-        let at = state.at;
-        if at >= octets.len() {
-            return Measured::Needs(k, o - seam);
-        }
-        let x = octets[at];
-        let iei = iei_of(x);
-        let place = entry_of(index, iei);
-        let left = &octets[at..];
-        let seen = state.seen;
-        let highest = state.highest;
-        let came = if place == NO_PLACE {
-            came_unknown(left, x, tlve_start)
-        } else {
-            let row = numbers_at(table, place);
-            let again = seen_has(seen, place);
-            came_known(left, row, iei, option, again, place < highest)
-        };
-        match came {
-            Came::Is(len, placed) => {
-                let e = Element {
-                    start: at,
-                    len,
-                    iei,
-                    place,
-                    placed,
-                };
+        match element_step(octets, table, index, tlve_start, option, state) {
+            Step::Next(e, next) => {
+                let placed = e.placed;
                 enter_row(rows, table, e);
                 k = keep_here(octets, e, block, k);
                 o = note(placed, block, o);
-                state = after(state, place, at + len);
+                state = next;
             }
-            Came::Cut(missing) => {
-                return Measured::Cut(at, x, left.len(), missing);
+            Step::Cut(start, x, left, missing) => {
+                return Measured::Cut(start, x, left, missing);
+            }
+            Step::End => {
+                return Measured::Needs(k, o - seam);
             }
         }
     }

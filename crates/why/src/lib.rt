@@ -1,15 +1,8 @@
 // Why an element of an optional part came as it did: its verdict with its ground.
-use elements::element::Came;
 use elements::element::Element;
-use elements::element::NO_PLACE;
-use elements::element::State;
 use elements::element::Step;
-use elements::element::after;
-use elements::element::came_known;
-use elements::element::came_unknown;
-use elements::element::entry_of;
+use elements::element::element_step;
 use elements::element::frame;
-use elements::element::iei_of;
 use elements::next::start_state;
 use length::Length;
 use numbered::Loaded;
@@ -28,12 +21,11 @@ use seen::Seen;
 use seen::seen_has;
 ghost use mathlib.Core.Path.{_≡_};
 ghost use Prim.Native.Nat.{_≤_};
-ghost use lib.ListN.{length, drop};
+ghost use lib.ListN.{length};
 ghost use mathlib.Core.Option.{none};
 ghost use Rattle.definitions.specs.Rows.{rowsOf, firstBad};
-ghost use Rattle.definitions.specs.Elements.{step, parted};
+ghost use Rattle.definitions.specs.Elements.{parted};
 ghost use Rattle.definitions.specs.Why.{faultIn, explaining, explainingBy};
-ghost use Rattle.elements.specs.Steps.{stepOf, metOf};
 ghost use Rattle.rows.specs.Indexed.{Indexed};
 ghost use Rattle.rows.specs.Numbers.{rowSaid};
 ghost use Rattle.seen.specs.Seen.{setOf};
@@ -135,50 +127,6 @@ fn ground(octets: &[u8], table: &[u32], starts: &[usize; 128], highest: usize, e
     }
 }
 
-// What stands at a state's position, by a table that passes its check and its index.
-fn step(
-    part: &[u8],
-    table: &[u32],
-    index: &[u8; 256],
-    tlve_start: u8,
-    option: bool,
-    state: State,
-) -> Step
-    requires { ⌜ Indexed (now table) (now index) ⌝ }
-    ensures { λ r. ⌜ r ≡ stepOf (Rattle.definitions.specs.Elements.step (rowsOf (now (table .entry))) «tlve_start» option (metOf state) (state .at) (drop (state .at) (now (part .entry)))) ⌝ }
-{
-    let at = state.at;
-    if at >= part.len() {
-        return Step::End;
-    }
-    let x = part[at];
-    let iei = iei_of(x);
-    let place = entry_of(index, iei);
-    let left = &part[at..];
-    let seen = state.seen;
-    let highest = state.highest;
-    let came = if place == NO_PLACE {
-        came_unknown(left, x, tlve_start)
-    } else {
-        let row = numbers_at(table, place);
-        let again = seen_has(seen, place);
-        came_known(left, row, iei, option, again, place < highest)
-    };
-    match came {
-        Came::Is(len, placed) => Step::Next(
-            Element {
-                start: at,
-                len,
-                iei,
-                place,
-                placed,
-            },
-            after(state, place, at + len),
-        ),
-        Came::Cut(missing) => Step::Cut(at, x, left.len(), missing),
-    }
-}
-
 // One pass over a part, to its end: a cut behind the element refuses it too.
 fn walk(
     octets: &[u8],
@@ -196,7 +144,7 @@ fn walk(
     let mut why = Why::NoElement;
     let mut count = 0;
     loop {
-        match step(octets, table, index, tlve_start, option, state) {
+        match element_step(octets, table, index, tlve_start, option, state) {
             Step::Next(e, next) => {
                 if count == number {
                     why = ground(octets, table, &starts, state.highest, e);

@@ -28,8 +28,8 @@ start-state-requires c κs = search needs
 loop-holds : tie.Need-loop-holds Inv-loop μ-loop
 loop-holds c i = walked-start (c .before .before .before .args .table .now) (c .before .before .before .args .index .now) i (c .before .before .before .args .tlve-start) (c .before .before .before .args .option) (c .before .before .before .args .octets .now) (c .before .before .before .args .number) _ _ (c .start-state .ensures) refl
 
-step-requires : tie.Need-step-requires Inv-loop μ-loop
-step-requires c κs = search needs
+element-step-requires : tie.Need-element-step-requires Inv-loop μ-loop
+element-step-requires c κs = search needs
 
 enum-known-e : tie.Need-enum-known-e Inv-loop μ-loop
 enum-known-e c = search needs
@@ -47,14 +47,14 @@ add-count c =
 
 loop-less : tie.Need-loop-less Inv-loop μ-loop
 loop-less c =
-    let n = nexts (rowsOf (c .before .before .before .before .before .before .before .before .before .before .before .before .args .table .now)) (c .before .before .before .before .before .before .before .before .before .before .before .before .args .tlve-start) (c .before .before .before .before .before .before .before .before .before .before .before .before .args .option) (c .before .before .before .before .before .before .before .before .before .before .before .before .args .octets .now) (c .before .before .before .before .before .before .before .before .loop .state) (c .before .before .before .before .before .before .before .before .loop .inv (c .before .before .before .before .before .before .before .before .before .before .before .before .pre .0) .within) _ _ (sym (c .before .before .before .before .before .e .given .1) ∙ c .before .before .before .before .before .before .before .step .ensures) in
+    let n = nexts (rowsOf (c .before .before .before .before .before .before .before .before .before .before .before .before .args .table .now)) (c .before .before .before .before .before .before .before .before .before .before .before .before .args .tlve-start) (c .before .before .before .before .before .before .before .before .before .before .before .before .args .option) (c .before .before .before .before .before .before .before .before .before .before .before .before .args .octets .now) (c .before .before .before .before .before .before .before .before .loop .state) (c .before .before .before .before .before .before .before .before .loop .inv (c .before .before .before .before .before .before .before .before .before .before .before .before .pre .0) .within) _ _ (sym (c .before .before .before .before .before .e .given .1) ∙ c .before .before .before .before .before .before .before .element-step .ensures .1 (c .before .before .before .before .before .before .before .before .before .before .before .before .pre .0)) in
     omega (arith, n .further, n .within, n .some-octet)
 
 loop-again : tie.Need-loop-again Inv-loop μ-loop
 loop-again c i =
     let a = c .before .before .before .before .before .before .before .before .before .before .before .before .args in
     let l = c .before .before .before .before .before .before .before .before .loop in
-    let n = nexts (rowsOf (c .before .before .before .before .before .before .before .before .before .before .before .before .args .table .now)) (c .before .before .before .before .before .before .before .before .before .before .before .before .args .tlve-start) (c .before .before .before .before .before .before .before .before .before .before .before .before .args .option) (c .before .before .before .before .before .before .before .before .before .before .before .before .args .octets .now) (c .before .before .before .before .before .before .before .before .loop .state) (c .before .before .before .before .before .before .before .before .loop .inv (c .before .before .before .before .before .before .before .before .before .before .before .before .pre .0) .within) _ _ (sym (c .before .before .before .before .before .e .given .1) ∙ c .before .before .before .before .before .before .before .step .ensures) in
+    let n = nexts (rowsOf (c .before .before .before .before .before .before .before .before .before .before .before .before .args .table .now)) (c .before .before .before .before .before .before .before .before .before .before .before .before .args .tlve-start) (c .before .before .before .before .before .before .before .before .before .before .before .before .args .option) (c .before .before .before .before .before .before .before .before .before .before .before .before .args .octets .now) (c .before .before .before .before .before .before .before .before .loop .state) (c .before .before .before .before .before .before .before .before .loop .inv (c .before .before .before .before .before .before .before .before .before .before .before .before .pre .0) .within) _ _ (sym (c .before .before .before .before .before .e .given .1) ∙ c .before .before .before .before .before .before .before .element-step .ensures .1 (c .before .before .before .before .before .before .before .before .before .before .before .before .pre .0)) in
     let e = c .before .before .before .before .before .e .given .0 .0 in
     let w : ((l .count ≡ a .number → c .before .before .before .if1 .why ≡ groundBy (a .octets .now) (a .table .now) (l .starts) (l .state .highest) e) × ((l .count ≡ a .number → ⊥) → c .before .before .before .if1 .why ≡ l .why)) =
     ⊎-elim (λ x. (λ q. x .3 ∙ x .2 .ensures, λ q. absurd (q (x .0 .taken)))) (λ x. (λ q. absurd (x .0 .left q), λ q. x .1)) (c .before .before .before .if1 .came) in
@@ -67,7 +67,7 @@ returns : tie.Need-returns Inv-loop μ-loop
 returns c =
     let a = c .before .before .before .before .before .before .before .before .args in
     let h = c .before .before .before .before .loop .inv (c .before .before .before .before .before .before .before .before .pre .0) in
-    walked-cut (a .table .now) (a .index .now) (c .before .before .before .before .before .before .before .before .pre .0) (a .tlve-start) (a .option) (a .octets .now) (a .number) h (cuts (rowsOf (a .table .now)) (a .tlve-start) (a .option) (a .octets .now) (c .before .before .before .before .loop .state) (h .within) (sym (c .before .start .given .1) ∙ c .before .before .before .step .ensures))
+    walked-cut (a .table .now) (a .index .now) (c .before .before .before .before .before .before .before .before .pre .0) (a .tlve-start) (a .option) (a .octets .now) (a .number) h (cuts (rowsOf (a .table .now)) (a .tlve-start) (a .option) (a .octets .now) (c .before .before .before .before .loop .state) (h .within) (sym (c .before .start .given .1) ∙ c .before .before .before .element-step .ensures .1 (c .before .before .before .before .before .before .before .before .pre .0)))
 
 enum-told : tie.Need-enum-told Inv-loop μ-loop
 enum-told c = search needs
@@ -76,7 +76,7 @@ returns-2 : tie.Need-returns-2 Inv-loop μ-loop
 returns-2 c =
     let a = c .before .before .before .before .before .before .before .args in
     let h = c .before .before .before .loop .inv (c .before .before .before .before .before .before .before .pre .0) in
-    walked-end (a .table .now) (a .index .now) (c .before .before .before .before .before .before .before .pre .0) (a .tlve-start) (a .option) (a .octets .now) (a .number) h (ends (rowsOf (a .table .now)) (a .tlve-start) (a .option) (a .octets .now) (c .before .before .before .loop .state) (h .within) (sym (c .enum-told .given .1) ∙ c .before .before .step .ensures))
+    walked-end (a .table .now) (a .index .now) (c .before .before .before .before .before .before .before .pre .0) (a .tlve-start) (a .option) (a .octets .now) (a .number) h (ends (rowsOf (a .table .now)) (a .tlve-start) (a .option) (a .octets .now) (c .before .before .before .loop .state) (h .within) (sym (c .enum-told .given .1) ∙ c .before .before .element-step .ensures .1 (c .before .before .before .before .before .before .before .pre .0)))
 
 pub walk-spec : {M : Type 1} → statement M
 walk-spec =
@@ -86,7 +86,7 @@ walk-spec =
     μ-loop
     start-state-requires
     loop-holds
-    step-requires
+    element-step-requires
     enum-known-e
     ground-requires
     enter-requires

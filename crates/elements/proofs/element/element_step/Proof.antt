@@ -3,20 +3,22 @@
 use native.Mathlib.Omega.{arith}
 use mathlib.Core.Path.{_≡_, refl, ap, sym, _∙_}
 use mathlib.Core.Logic.{⊎-elim, inl, inr}
+use borrow.Author.Tests.{lt-ltb, le-ltb, eq-eqb, ne-eqb}
 use lib.ListN.{length, getD, drop, length-drop}
 use Rattle.definitions.specs.Rows.{rowsOf}
 use Rattle.definitions.specs.Elements.{step}
 use Rattle.definitions.proofs.Lists.{to-end}
-use Rattle.elements.specs.Steps.{stepOf, metOf, foundAt}
+use Rattle.rows.specs.Indexed.{Indexed}
+use Rattle.elements.specs.Steps.{stepOf, metOf, foundAt, cameBy, stepBy}
 use Rattle.elements.proofs.Steps.{step-end}
-use Rattle.elements.proofs.Came.{Ways, came-here}
-use Rattle.elements.proofs.Nexts.{nexts}
+use Rattle.elements.proofs.Came.{Ways, came-here, came-within}
 use borrow.Author.Needs.{needs}
 use Rattle.elements.proofs.element.element_step.Statement.{statement}
 use Rattle.elements.proofs.element.element_step.Tie as tie
 
 returns : tie.Need-returns
-returns c = let a = c .before .before .before .args in ap stepOf (sym (step-end (rowsOf (a .table .now)) (a .tlve-start) (a .option) (metOf (a .state)) (a .state .at) (drop (a .state .at) (a .part .now)) (simp length-drop (omega arith))))
+unfolding stepBy
+returns c = let a = c .before .before .before .args in (rw (le-ltb (a .state .at) (length (a .part .now)) (omega arith)), λ i. ap stepOf (sym (step-end (rowsOf (a .table .now)) (a .tlve-start) (a .option) (metOf (a .state)) (a .state .at) (drop (a .state .at) (a .part .now)) (simp length-drop (omega arith)))))
 
 shared-slice-read-x : tie.Need-shared-slice-read-x
 shared-slice-read-x c = search needs
@@ -51,24 +53,32 @@ came-known-requires c κs = search needs
 enum-known-came : tie.Need-enum-known-came
 enum-known-came c = search needs
 
--- how the element came, by the way to it, and the step that this is
-ways : (c : tie.Joined2) → let a = c .before .before .before .before .before .before .before .before .before .args in Ways (a .table .now) (a .index .now) (c .before .before .before .before .before .before .before .before .before .pre) (a .tlve-start) (a .option) (a .part .now) (a .state) (omega arith) (omega arith) (getD (a .part .now) (a .state .at) 0) (c .before .before .before .before .iei-of .result) (c .before .before .before .entry-of .result) (c .if2 .came′)
-ways c =
+-- how the element came, by the way to it, and the step that this is by the table's own index
+came-is : (c : tie.Joined2) → let a = c .before .before .before .before .before .before .before .before .before .args in c .if2 .came′ ≡ cameBy (a .table .now) (a .tlve-start) (a .option) (a .state) (drop (a .state .at) (a .part .now)) (getD (a .part .now) (a .state .at) 0) (c .before .before .before .before .iei-of .result) (c .before .before .before .entry-of .result)
+came-is c =
+    ⊎-elim
+    (λ w. w .2 ∙ (rw to-end at (w .1 .ensures)) ∙ rw (eq-eqb _ 255 (w .0 .taken)))
+    (λ w. w .4 ∙ (rw (to-end, w .1 .ensures, w .2 .ensures) at (w .3 .ensures)) ∙ rw (ne-eqb _ 255 (w .0 .left)))
+    (c .if2 .came)
+
+ways : (c : tie.Joined2) → let a = c .before .before .before .before .before .before .before .before .before .args in (i : Indexed (a .table .now) (a .index .now)) → Ways (a .table .now) (a .index .now) i (a .tlve-start) (a .option) (a .part .now) (a .state) (omega arith) (omega arith) (getD (a .part .now) (a .state .at) 0) (c .before .before .before .before .iei-of .result) (c .before .before .before .entry-of .result) (c .if2 .came′)
+ways c i =
     ⊎-elim
     (λ w. inl (w .0 .taken, w .2 ∙ rw to-end at (w .1 .ensures)))
     (λ w. inr (w .0 .left, w .4 ∙ rw (to-end, w .1 .ensures, w .2 .ensures) at (w .3 .ensures)))
     (c .if2 .came)
 
-here : (c : tie.Joined2) → let a = c .before .before .before .before .before .before .before .before .before .args in foundAt (a .state) (getD (a .part .now) (a .state .at) 0) (c .before .before .before .before .iei-of .result) (c .before .before .before .entry-of .result) (length (drop (a .state .at) (a .part .now))) (c .if2 .came′) ≡ stepOf (step (rowsOf (a .table .now)) (a .tlve-start) (a .option) (metOf (a .state)) (a .state .at) (drop (a .state .at) (a .part .now)))
-here c =
+here : (c : tie.Joined2) → let a = c .before .before .before .before .before .before .before .before .before .args in Indexed (a .table .now) (a .index .now) → foundAt (a .state) (getD (a .part .now) (a .state .at) 0) (c .before .before .before .before .iei-of .result) (c .before .before .before .entry-of .result) (length (drop (a .state .at) (a .part .now))) (c .if2 .came′) ≡ stepOf (step (rowsOf (a .table .now)) (a .tlve-start) (a .option) (metOf (a .state)) (a .state .at) (drop (a .state .at) (a .part .now)))
+here c i =
     let a = c .before .before .before .before .before .before .before .before .before .args in
-    came-here (a .table .now) (a .index .now) (c .before .before .before .before .before .before .before .before .before .pre) (a .tlve-start) (a .option) (a .part .now) (a .state) (omega arith) (omega arith) _ _ _ refl (c .before .before .before .before .iei-of .ensures) (omega arith) (c .before .before .before .entry-of .ensures) (c .if2 .came′) (ways c)
+    came-here (a .table .now) (a .index .now) i (a .tlve-start) (a .option) (a .part .now) (a .state) (omega arith) (omega arith) _ _ _ refl (c .before .before .before .before .iei-of .ensures) (omega arith) (c .before .before .before .entry-of .ensures) (c .if2 .came′) (ways c i)
 
 add-after : tie.Need-add-after
 add-after c =
     let a = c .before .before .before .before .before .before .before .before .before .before .before .before .args in
-    let n = nexts (rowsOf (a .table .now)) (a .tlve-start) (a .option) (a .part .now) (a .state) (omega arith) _ _ (rw (c .before .came .given .1) at (here (c .before .before .before))) in
-    omega (arith, n .within)
+    let n = came-within (a .table .now) (a .tlve-start) (a .option) (a .state) (drop (a .state .at) (a .part .now)) (getD (a .part .now) (a .state .at) 0) (c .before .before .before .before .before .before .before .iei-of .result) (c .before .before .before .before .before .before .entry-of .result) (came-is (c .before .before .before)) (c .before .came .given .1) in
+    let l = length-drop (a .state .at) (a .part .now) in
+    omega arith
 
 after-requires : tie.Need-after-requires
 after-requires c κs = search needs
@@ -76,11 +86,18 @@ after-requires c κs = search needs
 enum-known-came-2 : tie.Need-enum-known-came-2
 enum-known-came-2 c = search needs
 
+-- the answer by any index
+step-is : (c : tie.Joined2) → let a = c .before .before .before .before .before .before .before .before .before .args in foundAt (a .state) (getD (a .part .now) (a .state .at) 0) (c .before .before .before .before .iei-of .result) (c .before .before .before .entry-of .result) (length (drop (a .state .at) (a .part .now))) (c .if2 .came′) ≡ stepBy (a .table .now) (a .index .now) (a .tlve-start) (a .option) (a .part .now) (a .state)
+unfolding stepBy
+step-is c =
+    let a = c .before .before .before .before .before .before .before .before .before .args in
+    rw (lt-ltb (a .state .at) (length (a .part .now)) (omega arith), came-is c, c .before .before .before .entry-of .ensures, c .before .before .before .before .iei-of .ensures)
+
 returns-2 : tie.Need-returns-2
-returns-2 c = rw (c .after .ensures) (rw (c .before .before .came .given .1) at (here (c .before .before .before .before)))
+returns-2 c = rw (c .after .ensures) (rw (c .before .before .came .given .1) at (step-is (c .before .before .before .before)), λ i. rw (c .before .before .came .given .1) at (here (c .before .before .before .before) i))
 
 returns-3 : tie.Need-returns-3
-returns-3 c = rw to-end (rw (c .before .came2 .given .1) at (here (c .before .before .before)))
+returns-3 c = rw to-end (rw (c .before .came2 .given .1) at (step-is (c .before .before .before)), λ i. rw (c .before .came2 .given .1) at (here (c .before .before .before) i))
 
 pub element-step-spec : {M : Type 1} → statement M
 element-step-spec =

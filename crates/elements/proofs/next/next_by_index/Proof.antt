@@ -27,15 +27,15 @@ enum-told c = search needs
 
 returns-2 : tie.Need-returns-2
 unfolding nextFrom
-returns-2 c = rw (le-ltb 65535 (length (c .before .before .before .before .before .before .before .args .octets .now)) (omega arith)) (ap nextAs (sym (c .before .e .given .1) ∙ c .before .before .before .element-step .ensures))
+returns-2 c = rw (le-ltb 65535 (length (c .before .before .before .before .before .before .before .args .octets .now)) (omega arith)) (ap nextAs (sym (c .before .e .given .1) ∙ c .before .before .before .element-step .ensures .1 (c .before .before .before .before .before .before .before .pre)))
 
 returns-3 : tie.Need-returns-3
 unfolding nextFrom
-returns-3 c = rw (le-ltb 65535 (length (c .before .before .before .before .before .before .before .args .octets .now)) (omega arith)) (ap nextAs (sym (c .before .start .given .1) ∙ c .before .before .before .element-step .ensures))
+returns-3 c = rw (le-ltb 65535 (length (c .before .before .before .before .before .before .before .args .octets .now)) (omega arith)) (ap nextAs (sym (c .before .start .given .1) ∙ c .before .before .before .element-step .ensures .1 (c .before .before .before .before .before .before .before .pre)))
 
 returns-4 : tie.Need-returns-4
 unfolding nextFrom
-returns-4 c = rw (le-ltb 65535 (length (c .before .before .before .before .before .before .args .octets .now)) (omega arith)) (ap nextAs (sym (c .enum-told .given .1) ∙ c .before .before .element-step .ensures))
+returns-4 c = rw (le-ltb 65535 (length (c .before .before .before .before .before .before .args .octets .now)) (omega arith)) (ap nextAs (sym (c .enum-told .given .1) ∙ c .before .before .element-step .ensures .1 (c .before .before .before .before .before .before .pre)))
 
 pub next-by-index-spec : {M : Type 1} → statement M
 next-by-index-spec =
