@@ -95,7 +95,7 @@ fn keep(octets: &[u8], e: Element, kept: &mut [u8], used: usize) -> usize
     }
 }
 
-// The octets of an element behind their count; the octets then used. One octet, as many elements have, is stored here.
+// The octets of an element behind their count; the octets then used. One and two, as many elements have, are stored here.
 pub(crate) fn keep_octets(element: &[u8], kept: &mut [u8], used: usize) -> usize
     requires { ⌜ (1 ≤ length (now element)) × (length (now element) ≤ 65535) × (used + length (keptEntry (now element)) ≤ length (now kept)) ⌝ }
     ensures { λ r. ⌜ (r ≡ used + length (keptEntry (now (element .entry)))) × (now (kept .exit) ≡ overAt used (keptEntry (now (element .entry))) (now (kept .entry))) ⌝ }
@@ -104,6 +104,12 @@ pub(crate) fn keep_octets(element: &[u8], kept: &mut [u8], used: usize) -> usize
         kept[used] = 1;
         kept[used + 1] = element[0];
         return used + 2;
+    }
+    if element.len() == 2 {
+        kept[used] = 2;
+        kept[used + 1] = element[0];
+        kept[used + 2] = element[1];
+        return used + 3;
     }
     used + put_raw(&mut kept[used..], element)
 }
