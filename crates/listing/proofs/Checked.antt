@@ -16,14 +16,12 @@ use Rattle.definitions.specs.Elements.{Element, Parted, elements, cutShort, par
 use Rattle.definitions.specs.Listing.{ascii, decimal, newline}
 use Rattle.definitions.specs.Checking.{offender, checking, checkingBy}
 use Rattle.definitions.proofs.Checkings.{check-cut, check-parted, Passed, passed}
+use Rattle.real.proofs.RealLaws.{passes-of}
 use Rattle.checking.specs.Checks.{partCheckAs}
 use Rattle.checking.specs.declared.PartCheck.{PartCheck}
 use Rattle.checking.proofs.SameAnswers.{same-part-check}
-use Rattle.listing.specs.Parts.{Passing, partedBy, wholeOf}
-use Rattle.listing.specs.Verdicts.{lineAt, lineBy, checkLine, checkText, checkTelling, checkSaid}
-use Rattle.listing.specs.declared.Whole.{Whole}
+use Rattle.listing.specs.Verdicts.{ReadWhole, lineAt, lineBy, checkLine, checkText, checkTelling, checkSaid}
 use Rattle.listing.proofs.Lines.{decimal-short, cut-short}
-use Rattle.listing.proofs.Saying.{passes-of}
 use Rattle.listing.proofs.Finding.{line-at-short}
 
 abbrev refusedAt : ℕ → List ℕ
@@ -51,27 +49,27 @@ module _ (number : ℕ) (part : List ℕ) where
 
   -- ---- the line behind that of an offender
 
-  pub line-of-table : (at : ℕ) {o : Option (List ℕ)} → tableOf number ≡ o → lineBy number part at ≡ elim o [ none ↦ [] | some table ↦ lineAt at (elementsOf (partedBy table false part)) ]
+  pub line-of-table : (at : ℕ) {o : Option (List ℕ)} → tableOf number ≡ o → lineBy number part at ≡ elim o [ none ↦ [] | some table ↦ lineAt at (elementsOf (parted (rowsOf table) startOf false part)) ]
   unfolding lineBy
-  line-of-table at e = ap (λ (o : Option (List ℕ)). elim o [ none ↦ [] | some table ↦ lineAt at (elementsOf (partedBy table false part)) ]) e
+  line-of-table at e = ap (λ (o : Option (List ℕ)). elim o [ none ↦ [] | some table ↦ lineAt at (elementsOf (parted (rowsOf table) startOf false part)) ]) e
 
   line-by-short : (at : ℕ) → length (lineBy number part at) ≤ 25
   line-by-short at = by (tableOf number) refl
     where
       by : (o : Option (List ℕ)) → tableOf number ≡ o → length (lineBy number part at) ≤ 25
       by none q = rw (line-of-table at q) (omega arith)
-      by (some t) q = rw (line-of-table at q) (line-at-short at (elementsOf (partedBy t false part)))
+      by (some t) q = rw (line-of-table at q) (line-at-short at (elementsOf (parted (rowsOf t) startOf false part)))
 
   -- a part with an offender is within the limit and read whole
-  pub offends-in : {at : ℕ} {t : List ℕ} → answer 29 (at ∷ []) ≡ checkTelling number part → tableOf number ≡ some t → Passing t part × (wholeOf (partedBy t false part) ≡ Whole.Elements)
+  pub offends-in : {at : ℕ} {t : List ℕ} → answer 29 (at ∷ []) ≡ checkTelling number part → tableOf number ≡ some t → ReadWhole t part
   offends-in {at} {t} h q = by (ltb 4096 (length part)) refl
     where
-      by : (b : Bool) → ltb 4096 (length part) ≡ b → Passing t part × (wholeOf (partedBy t false part) ≡ Whole.Elements)
+      by : (b : Bool) → ltb 4096 (length part) ≡ b → ReadWhole t part
       by true e = absurd (omega (arith, ap (λ (a : Answer). a .number) (h ∙ sym (telling-long (ltb-true 4096 (length part) e)))))
       by false e =
           let l : length part ≤ 4096 = ltb-false 4096 (length part) e in
           let p : Passed t startOf part (some at) = passed t startOf part (some at) (sym (h ∙ sym (telling-read l) ∙ by-table q)) in
-          (record { passes = p .passes; short = l }, ap wholeOf (p .decodes))
+          record { passes = p .passes; short = p .short; found = p .found; reads = p .decodes }
 
   -- ---- the text
 

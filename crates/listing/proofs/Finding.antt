@@ -2,25 +2,28 @@
 -- An element that starts elsewhere is passed over, by the definition and by the code.
 use Prim.Native.Nat.{ℕ, _≤_}
 use native.Mathlib.Omega.{arith}
-use mathlib.Core.Path.{_≡_, refl, ap, sym, _∙_}
+use mathlib.Core.Path.{_≡_, ap, sym, _∙_}
 use mathlib.Core.List.{List, [], _∷_}
 use mathlib.Core.Bool.{Bool, true, false}
-use lib.ListN.{length}
+use lib.ListN.{length, drop}
 use lib.Dec.{eqb}
 use borrow.Author.Tests.{eq-eqb, ne-eqb}
 use Rattle.definitions.specs.Basic.{pick}
-use Rattle.definitions.specs.Elements.{Element as DefElement, elements, elementsOf}
+use Rattle.definitions.specs.Rows.{rowsOf}
+use Rattle.definitions.specs.Tables.{startOf}
+use Rattle.definitions.specs.Elements.{Element as DefElement, Parted, elements, step, parted, elementsOf}
 use Rattle.definitions.specs.Listing.{line}
-use Rattle.elements.specs.Steps.{elementOf}
-use Rattle.elements.specs.Nexts.{startState}
+use Rattle.elements.specs.Steps.{elementOf, stepOf, metOf}
+use Rattle.elements.specs.Nexts.{startState, nextOf}
 use Rattle.elements.specs.declared.element.State.{State}
 use Rattle.elements.specs.declared.element.Element.{Element}
+use Rattle.elements.specs.declared.element.Step.{Step}
+use Rattle.elements.specs.declared.next.NextElement.{NextElement}
+use Rattle.elements.proofs.Nexts.{from, Nexts, from-start, nexts, cuts, ends}
+use Rattle.elements.proofs.Walks.{back, next-step, Behind, behind, none-left, never-cut}
 use Rattle.listing.specs.Lines.{lineOf}
-use Rattle.listing.specs.Parts.{partedBy, wholeOf}
-use Rattle.listing.specs.Verdicts.{lineAt}
-use Rattle.listing.specs.declared.Whole.{Whole}
 use Rattle.listing.proofs.Lines.{line-is, line-short}
-use Rattle.listing.proofs.Reading.{left, Found, left-start, whole-elements, Behind, behind, none-left}
+use Rattle.listing.specs.Verdicts.{ReadWhole, lineAt}
 
 -- ---- the line of a list of elements
 
@@ -46,26 +49,47 @@ module _ (at : ℕ) where
 
 module _ (table part : List ℕ) (at : ℕ) where
   abbrev all : List ℕ
-  all = lineAt at (elementsOf (partedBy table false part))
+  all = lineAt at (elementsOf (parted (rowsOf table) startOf false part))
+
+  abbrev pub Found : State → Element → State → Type 0
+  Found s e v = Nexts (rowsOf table) startOf false part s e v
 
   pub record Looking (s : State) : Type 0 where
     pub rest : List DefElement
-    pub reads : left table false part s ≡ elements rest
+    pub reads : from (rowsOf table) startOf false part s ≡ elements rest
     pub within : s .at ≤ length part
     pub tells : lineAt at rest ≡ all
 
-  pub looking-start : (s : State) → s ≡ startState → wholeOf (partedBy table false part) ≡ Whole.Elements → Looking s
-  looking-start s e h =
+  pub looking-start : (s : State) → s ≡ startState → ReadWhole table part → Looking s
+  unfolding elementsOf
+  looking-start s e w =
       rw e (record {
-        rest = elementsOf (partedBy table false part);
-        reads = left-start table false part ∙ whole-elements (partedBy table false part) h;
+        rest = w .found;
+        reads = from-start (rowsOf table) startOf false part ∙ w .reads;
         within = omega arith;
-        tells = refl;
+        tells = ap (λ (p : Parted). lineAt at (elementsOf p)) (sym (w .reads));
       })
 
-  module _ {s v : State} {e : Element} (i : Looking s) (n : Found table false part s e v) where
-    abbrev then : Behind table false part (n .element) v (i .rest)
-    then = behind table false part (i .reads) n
+  -- what the step at a state answers
+  module _ (w : ReadWhole table part) {s : State} (i : Looking s) where
+    answered : {n : NextElement} → n ≡ nextOf (rowsOf table) startOf false part s → back n ≡ stepOf (step (rowsOf table) startOf false (metOf s) (s .at) (drop (s .at) part))
+    answered e = next-step (rowsOf table) startOf false part s (w .passes) (w .short) e
+
+    pub next-found : {e : Element} {v : State} → NextElement.Next e v ≡ nextOf (rowsOf table) startOf false part s → Found s e v
+    next-found {e} {v} h = nexts (rowsOf table) startOf false part s (i .within) e v (answered h)
+
+    pub not-cut : {a x n m : ℕ} → NextElement.Cut a x n m ≡ nextOf (rowsOf table) startOf false part s → ⊥
+    not-cut h = never-cut (i .reads) (cuts (rowsOf table) startOf false part s (i .within) (answered h))
+
+    pub found-none : {n : NextElement} → n ≡ nextOf (rowsOf table) startOf false part s → Step.End ≡ back n → [] ≡ all
+    unfolding lineAt
+    found-none h f =
+        ap (lineAt at) (sym (none-left (i .reads) (ends (rowsOf table) startOf false part s (i .within) (f ∙ answered h)))) ∙ i .tells
+
+  -- an element that was found
+  module _ {s v : State} {e : Element} (i : Looking s) (n : Found s e v) where
+    abbrev then : Behind (rowsOf table) startOf false part (n .element) v (i .rest)
+    then = behind (rowsOf table) startOf false part (i .reads) n
 
     starts-at : e .start ≡ n .element .at
     unfolding elementOf
@@ -87,7 +111,3 @@ module _ (table part : List ℕ) (at : ℕ) where
           within = omega (arith, n .further, n .within);
           tells = line-behind at (n .element) (then .more) (λ q. h (starts-at ∙ q)) ∙ ap (lineAt at) (then .is) ∙ i .tells;
         }
-
-  pub found-none : {s : State} → Looking s → left table false part s ≡ elements [] → [] ≡ all
-  unfolding lineAt
-  found-none i e = ap (lineAt at) (sym (none-left (i .reads) e)) ∙ i .tells

@@ -5,17 +5,16 @@ use native.Mathlib.Omega.{arith}
 use mathlib.Core.Path.{_≡_, refl, ap, sym, _∙_}
 use mathlib.Core.List.{List, [], _++_}
 use mathlib.Core.Bool.{Bool, true}
-use mathlib.Core.Option.{Option, none, some, Option·getD}
+use mathlib.Core.Option.{Option, none, some}
 use lib.ListN.{length, length-append}
 use borrow.Author.Tests.{lt-ltb, le-ltb}
-use Rattle.definitions.specs.Rows.{Row, rowsOf, firstBad}
+use Rattle.definitions.specs.Rows.{Row, rowsOf}
 use Rattle.definitions.specs.Tables.{tableOf, startOf}
 use Rattle.definitions.specs.Elements.{Parted, elements, cutShort, parted}
 use Rattle.definitions.specs.Listing.{ascii, decimal, word, newline}
 use Rattle.definitions.specs.Why.{Why as DefWhy, wasAccepted, wasUnknown, wasMalformed, wasRepeated, wasOutOfSequence, cutOff, underLeast, kindBarred, why, whyWords, atNumber, whyLine, whyText, explainingBy}
 use Rattle.definitions.proofs.Whys.{number-map}
-use Rattle.real.specs.Real.{realOf}
-use Rattle.real.proofs.RealLaws.{real}
+use Rattle.real.proofs.RealLaws.{passes-of}
 use Rattle.why.specs.Whys.{whyFor, whyAs, whyIn}
 use Rattle.why.specs.declared.Fault.{Fault}
 use Rattle.why.specs.declared.Why.{Why}
@@ -54,10 +53,6 @@ said-in t n (elements es) =
 said-in t n (cutShort a x k m) = refl
 
 -- ---- by table number
-
--- a table that a number names passes its check
-pub passes-of : (number : ℕ) {t : List ℕ} → tableOf number ≡ some t → firstBad (rowsOf t) ≡ none
-passes-of number e = let q : realOf number ≡ _ = ap (λ (o : Option (List ℕ)). Option·getD o []) e in rw (← q) (real number .passes)
 
 module _ (number : ℕ) (option : Bool) (part : List ℕ) (n : ℕ) where
   pub said-long : 4096 < length part → saidOf Why.TooLong ≡ whyTextOf number option part n

@@ -1,12 +1,13 @@
 -- What nas-check prints, by table number (document 02, item 8).
-use Prim.Native.Nat.{ℕ}
+use Prim.Native.Nat.{ℕ, _≤_}
+use mathlib.Core.Path.{_≡_}
 use mathlib.Core.List.{List, [], _∷_, _++_}
 use mathlib.Core.Bool.{Bool, false}
 use mathlib.Core.Option.{none, some}
 use lib.ListN.{length}
 use lib.Dec.{ltb, eqb}
-use Rattle.definitions.specs.Basic.{pick, Answer, answer}
-use Rattle.definitions.specs.Rows.{Row, rowsOf}
+use Rattle.definitions.specs.Basic.{pick, mostOctets, Answer, answer}
+use Rattle.definitions.specs.Rows.{Row, rowsOf, firstBad}
 use Rattle.definitions.specs.Tables.{tableOf, startOf}
 use Rattle.definitions.specs.Elements.{Element, Parted, elements, cutShort, parted, elementsOf}
 use Rattle.definitions.specs.Listing.{ascii, decimal, newline, line, listed, mostListed}
@@ -55,3 +56,10 @@ checkSaid number part (PartCheck.CutShort a x k m) = listed 0 (cutShort a x k m)
 checkSaid number part PartCheck.TooLong = ascii "too long" ++ newline
 checkSaid number part (PartCheck.BadTable k) = []
 checkSaid number part PartCheck.NoTable = []
+
+-- a table that passes its check, and a part within the limit of reading that it reads whole, with the option off
+pub record ReadWhole (table part : List ℕ) : Type 0 where
+  pub passes : firstBad (rowsOf table) ≡ none
+  pub short : length part ≤ mostOctets
+  pub found : List Element
+  pub reads : parted (rowsOf table) startOf false part ≡ elements found

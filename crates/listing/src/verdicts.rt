@@ -5,12 +5,13 @@ use crate::grounds::put_start;
 use crate::put::put;
 use crate::put::put_cut;
 use crate::put::put_line;
-use crate::step;
 use checking::PartCheck;
 use checking::check_part_by;
-use elements::element::Step;
+use elements::next::NextElement;
+use elements::next::next_element;
 use elements::next::start_state;
 use numbered::Loaded;
+use numbered::TLVE_START;
 use numbered::load;
 ghost use mathlib.Core.Path.{_≡_};
 ghost use mathlib.Core.List.{[], _∷_};
@@ -18,32 +19,38 @@ ghost use mathlib.Core.Bool.{false};
 ghost use Prim.Native.Nat.{_≤_};
 ghost use lib.ListN.{length};
 ghost use Rattle.definitions.specs.Basic.{over, answer};
-ghost use Rattle.definitions.specs.Elements.{elementsOf};
+ghost use Rattle.definitions.specs.Rows.{rowsOf};
+ghost use Rattle.definitions.specs.Tables.{startOf};
+ghost use Rattle.definitions.specs.Elements.{parted, elementsOf};
 ghost use Rattle.checking.specs.Checks.{partCheckAs};
 ghost use Rattle.listing.specs.Puts.{Put};
-ghost use Rattle.listing.specs.Parts.{Passing, partedBy, wholeOf};
 ghost use Rattle.listing.specs.Grounds.{refuses};
-ghost use Rattle.listing.specs.declared.Whole.{Whole};
-ghost use Rattle.listing.specs.Verdicts.{lineAt, lineBy, checkText, checkTelling, checkRefused, checkSaid};
+ghost use Rattle.listing.specs.Verdicts.{ReadWhole, lineAt, lineBy, checkText, checkTelling, checkRefused, checkSaid};
 
 // The line of the element that starts at a position, of a part that is read whole.
 fn put_line_at(octets: &[u8], table: &[u32], at: usize, out: &mut [u8], used: usize) -> usize
-    requires { ⌜ Passing (now table) (now octets) × (used ≤ 32) × (wholeOf (partedBy (now table) false (now octets)) ≡ Whole.Elements) ⌝ }
-    ensures { λ r. ⌜ Put (now (out .entry)) used (lineAt at (elementsOf (partedBy (now (table .entry)) false (now (octets .entry))))) (now (out .exit)) r ⌝ }
+    requires { ⌜ ReadWhole (now table) (now octets) × (used ≤ 32) ⌝ }
+    ensures { λ r. ⌜ Put (now (out .entry)) used (lineAt at (elementsOf (parted (rowsOf (now (table .entry))) startOf false (now (octets .entry))))) (now (out .exit)) r ⌝ }
 {
     let mut state = start_state();
     loop {
-        match step(octets, table, false, state) {
-            Step::Next(e, next) => {
+        match next_element(octets, table, TLVE_START, false, state) {
+            NextElement::Next(e, next) => {
                 if e.start == at {
                     return put_line(out, used, e);
                 }
                 state = next;
             }
-            Step::Cut(_, _, _, _) => {
+            NextElement::Cut(_, _, _, _) => {
                 return used;
             }
-            Step::End => {
+            NextElement::End => {
+                return used;
+            }
+            NextElement::TooLong => {
+                return used;
+            }
+            NextElement::BadTable(_) => {
                 return used;
             }
         }

@@ -7,7 +7,8 @@ use lib.ListN.{length}
 use Rattle.definitions.specs.Rows.{rowsOf}
 use Rattle.definitions.specs.Tables.{startOf}
 use Rattle.elements.proofs.Nexts.{nexts, cuts, ends}
-use Rattle.listing.proofs.Reading.{Writing, written-start, written, written-all, never-cut}
+use Rattle.elements.proofs.Walks.{never-cut}
+use Rattle.listing.proofs.Reading.{Writing, written-start, written, written-all}
 use borrow.Author.Needs.{needs}
 use Rattle.listing.proofs.put_lines.Statement.{statement}
 use Rattle.listing.proofs.put_lines.Tie as tie

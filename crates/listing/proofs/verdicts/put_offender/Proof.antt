@@ -25,7 +25,7 @@ put-line-at-requires : tie.Need-put-line-at-requires
 put-line-at-requires c κs =
     let l = is-loaded (rw (c .before .before .before .n .given .1) at (c .before .before .before .before .before .load .ensures)) in
     let o = offends-in (c .before .before .before .before .before .before .before .before .before .before .args .number) (c .before .before .before .before .before .before .before .before .before .before .args .octets .now) (c .before .before .before .before .before .before .before .before .before .before .pre .1) (l .is) in
-    (o .0, c .before .before .before .before .before .before .before .before .before .before .pre .0, o .1)
+    (o, c .before .before .before .before .before .before .before .before .before .before .pre .0)
 
 enum-told : tie.Need-enum-told
 enum-told c = search needs
