@@ -18,12 +18,12 @@ use Rattle.elements.specs.declared.element.Element.{Element}
 use Rattle.elements.specs.declared.next.NextElement.{NextElement}
 use Rattle.elements.proofs.Nexts.{from, Nexts, from-start}
 use Rattle.elements.proofs.Walks.{back, next-step, Behind, behind, none-left}
-use Rattle.listing.specs.Puts.{Put}
-use Rattle.listing.specs.Lines.{lineOf}
+use Rattle.wording.specs.Puts.{Put}
+use Rattle.wording.specs.Lines.{lineOf}
 use Rattle.listing.specs.Parts.{Passing, stepAt, partedBy, wholeOf, listingOf, isCut, isRefused, isRefusedOf}
 use Rattle.listing.specs.declared.Whole.{Whole}
-use Rattle.listing.proofs.Puts.{joined, at-text, put-none, put-long}
-use Rattle.listing.proofs.Lines.{line-is, line-short}
+use Rattle.wording.proofs.Puts.{joined, at-text, put-none, put-long}
+use Rattle.wording.proofs.Lines.{line-is, line-short}
 
 -- ---- a step
 
