@@ -7,17 +7,17 @@ use mathlib.Core.List.{List}
 use mathlib.Core.Bool.{Bool}
 use mathlib.Core.Option.{none}
 use lib.ListN.{length, drop}
-use borrow.Author.Tests.{le-ltb}
 use Rattle.definitions.specs.Rows.{Row, firstBad}
 use Rattle.definitions.specs.Elements.{Element as DefElement, Parted, elements, cutShort, before, step, parted}
 use Rattle.elements.specs.Steps.{elementOf, stepOf, metOf}
-use Rattle.elements.specs.Nexts.{startState, nextAs, nextFrom, nextOf}
+use Rattle.elements.specs.Nexts.{startState, nextAs, nextOf}
 use Rattle.elements.specs.Iterates.{also, onward, iterated, told, foundIn}
 use Rattle.elements.specs.declared.element.State.{State}
 use Rattle.elements.specs.declared.element.Element.{Element}
 use Rattle.elements.specs.declared.element.Step.{Step}
 use Rattle.elements.specs.declared.next.NextElement.{NextElement}
 use Rattle.elements.proofs.Nexts.{from, Nexts, ends, cuts, nexts, from-start}
+use Rattle.elements.proofs.Walks.{next-read}
 
 found-before : (d : DefElement) (p : Parted) → also (elementOf d) (foundIn p) ≡ foundIn (before d p)
 unfolding also foundIn before told
@@ -29,8 +29,8 @@ module _ (t : List Row) (start : ℕ) (option : Bool) (part : List ℕ) (passes 
   here s = stepOf (step t start option (metOf s) (s .at) (drop (s .at) part))
 
   next-is : (s : State) → nextOf t start option part s ≡ nextAs (here s)
-  unfolding nextOf nextFrom here
-  next-is s = rw (passes, le-ltb 65535 (length part) short)
+  unfolding here
+  next-is s = next-read t start option part s passes short
 
   onward-from :
       (f : ℕ) (s : State)

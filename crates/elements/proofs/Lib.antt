@@ -3,4 +3,5 @@ pub mod Frames
 pub mod Came
 pub mod Steps
 pub mod Nexts
+pub mod Walks
 pub mod Iterated

@@ -1,14 +1,12 @@
 -- What an answer says of the lent buffer: a text that was written fits.
--- By the test of the room, or since it stands in the front.
+-- By the test of the room.
 use Prim.Native.Nat.{ℕ, _≤_}
 use native.Mathlib.Omega.{arith}
-use mathlib.Core.Path.{_≡_, refl, ap}
-use mathlib.Core.List.{List}
-use lib.ListN.{length, drop, length-append}
+use mathlib.Core.Path.{_≡_, refl}
 use mathlib.Core.Bool.{Bool, true, false}
 use lib.Dec.{leb}
 use borrow.Author.Tests.{leb-true}
-use Rattle.definitions.specs.Basic.{pick, over}
+use Rattle.definitions.specs.Basic.{pick}
 use Rattle.listing.specs.declared.Listed.{Listed}
 
 pub written-fits : (a b : ℕ) {n : ℕ} → Listed.Written n ≡ pick (leb a b) (Listed.Written a) (Listed.NoRoom a) → n ≤ b
@@ -19,7 +17,3 @@ written-fits a b {n} e = by (leb a b) refl e
         let i : n ≡ a = cc in
         omega (arith, leb-true a b h)
     by false h q = let z : _≡_ {A = ℕ} 0 1 = cc in absurd (omega arith)
-
-pub front-fits : (s d : List ℕ) {n : ℕ} {d′ : List ℕ} → n ≡ length s → d′ ≡ over s d → n ≤ length d′
-unfolding over
-front-fits s d e f = omega (arith, e, ap length f, length-append s (drop (length s) d))

@@ -3,49 +3,32 @@
 use Prim.Native.Nat.{ℕ, _+_, _*_, _≤_, _<_}
 use native.Mathlib.Omega.{arith}
 use mathlib.Core.Path.{_≡_, refl, ap, sym, _∙_}
-use mathlib.Core.List.{List, [], _∷_, _++_}
-use mathlib.Core.Bool.{Bool, true, false}
+use mathlib.Core.List.{List, [], _++_}
+use mathlib.Core.Bool.{Bool, true}
 use mathlib.Core.Option.{Option, none, some}
 use lib.ListN.{length}
 use borrow.Author.Tests.{lt-ltb, le-ltb}
-use Rattle.definitions.specs.Rows.{rowsOf, firstBad}
+use Rattle.definitions.specs.Rows.{rowsOf}
 use Rattle.definitions.specs.Tables.{tableOf, startOf}
 use Rattle.definitions.specs.Elements.{Element as DefElement, Parted, elements, cutShort, elementsOf, before}
 use Rattle.definitions.specs.Listing.{ascii, heading, newline, lines, listed, listingBy}
-use Rattle.elements.specs.Nexts.{startState, nextAs, nextFrom, nextOf}
+use Rattle.elements.specs.Nexts.{startState, nextOf}
 use Rattle.elements.specs.declared.element.State.{State}
 use Rattle.elements.specs.declared.element.Element.{Element}
-use Rattle.elements.specs.declared.element.Step.{Step}
 use Rattle.elements.specs.declared.next.NextElement.{NextElement}
 use Rattle.elements.proofs.Nexts.{from, Nexts, from-start}
-use Rattle.listing.specs.Puts.{Put}
-use Rattle.listing.specs.Lines.{lineOf}
+use Rattle.elements.proofs.Walks.{back, next-step, Behind, behind, none-left}
+use Rattle.wording.specs.Puts.{Put}
+use Rattle.wording.specs.Lines.{lineOf}
 use Rattle.listing.specs.Parts.{Passing, stepAt, partedBy, wholeOf, listingOf, isCut, isRefused, isRefusedOf}
 use Rattle.listing.specs.declared.Whole.{Whole}
-use Rattle.listing.proofs.Puts.{joined, at-text, put-none, put-long}
-use Rattle.listing.proofs.Lines.{line-is, line-short}
+use Rattle.wording.proofs.Puts.{joined, at-text, put-none, put-long}
+use Rattle.wording.proofs.Lines.{line-is, line-short}
 
 -- ---- a step
 
-abbrev back : NextElement → Step
-back (NextElement.Next e v) = Step.Next e v
-back (NextElement.Cut a x n m) = Step.Cut a x n m
-back NextElement.End = Step.End
-back NextElement.TooLong = Step.End
-back (NextElement.BadTable k) = Step.End
-
-back-as : (o : Step) → back (nextAs o) ≡ o
-back-as (Step.Next e v) = refl
-back-as (Step.Cut a x n m) = refl
-back-as Step.End = refl
-
-module _ (table : List ℕ) (option : Bool) where
-  next-read : (part : List ℕ) (s : State) → Passing table part → nextOf (rowsOf table) startOf option part s ≡ nextAs (stepAt table option part s)
-  unfolding nextOf nextFrom
-  next-read part s h = rw (h .passes, le-ltb 65535 (length part) (omega (arith, h .short)))
-
-  pub stepped : (part : List ℕ) (s : State) → Passing table part → {n : NextElement} → n ≡ nextOf (rowsOf table) startOf option part s → back n ≡ stepAt table option part s
-  stepped part s h e = ap back (e ∙ next-read part s h) ∙ back-as (stepAt table option part s)
+pub stepped : (table : List ℕ) (option : Bool) (part : List ℕ) (s : State) → Passing table part → {n : NextElement} → n ≡ nextOf (rowsOf table) startOf option part s → back n ≡ stepAt table option part s
+stepped table option part s h e = next-step (rowsOf table) startOf option part s (h .passes) (omega (arith, h .short)) e
 
 -- ---- by table number
 
@@ -65,17 +48,6 @@ pub whole-elements : (p : Parted) → wholeOf p ≡ Whole.Elements → p ≡ ele
 unfolding elementsOf
 whole-elements (elements es) h = refl
 whole-elements (cutShort a x n m) h = let z : _≡_ {A = ℕ} 0 1 = cc in absurd (omega arith)
-
-pub none-left : {p : Parted} {rest : List DefElement} → p ≡ elements rest → p ≡ elements [] → rest ≡ []
-none-left {rest = rest} r e =
-    let f : elements rest ≡ elements [] = sym r ∙ e in
-    cc
-
-pub never-cut : {p : Parted} {rest : List DefElement} {a x m k : ℕ} → p ≡ elements rest → p ≡ cutShort a x m k → ⊥
-never-cut {rest = rest} r e =
-    let f : elements rest ≡ cutShort _ _ _ _ = sym r ∙ e in
-    let z : _≡_ {A = ℕ} 0 1 = cc in
-    omega arith
 
 module _ (table : List ℕ) (option : Bool) (part : List ℕ) where
   abbrev pub left : State → Parted
@@ -108,25 +80,6 @@ module _ (table : List ℕ) (option : Bool) (part : List ℕ) where
         tells = sym (ap wholeOf (n .parts) ∙ whole-before (n .element) (left v)) ∙ i .tells;
       }
 
-  -- what is left behind an element of a part that is read whole
-  pub record Behind (d : DefElement) (v : State) (rest : List DefElement) : Type 0 where
-    pub more : List DefElement
-    pub reads : left v ≡ elements more
-    pub is : d ∷ more ≡ rest
-
-  pub behind : {s v : State} {e : Element} {rest : List DefElement} → left s ≡ elements rest → (n : Found s e v) → Behind (n .element) v rest
-  unfolding before
-  behind {v = v} {rest = rest} r n = by (left v) refl
-    where
-      by : (q : Parted) → left v ≡ q → Behind (n .element) v rest
-      by (elements es) q =
-          let f : elements (n .element ∷ es) ≡ elements rest = sym (n .parts ∙ ap (before (n .element)) q) ∙ r in
-          record { more = es; reads = q; is = cc }
-      by (cutShort a x m k) q =
-          let f : cutShort a x m k ≡ elements rest = sym (n .parts ∙ ap (before (n .element)) q) ∙ r in
-          let z : _≡_ {A = ℕ} 0 1 = cc in
-          absurd (omega arith)
-
   -- ---- the lines
 
   module _ (out₀ : List ℕ) (first : ℕ) where
@@ -156,7 +109,7 @@ module _ (table : List ℕ) (option : Bool) (part : List ℕ) where
       pub written : Writing v out′ used′
       unfolding lines
       written =
-          let b : Behind (n .element) v (i .rest) = behind (i .reads) n in
+          let b : Behind (rowsOf table) startOf option part (n .element) v (i .rest) = behind (rowsOf table) startOf option part (i .reads) n in
           let g : lineOf e ++ lines (b .more) ≡ lines (i .rest) =
           ap (λ (x : List ℕ). x ++ lines (b .more)) (ap lineOf (n .is) ∙ line-is (n .element)) ∙ ap lines (b .is) in
           record {

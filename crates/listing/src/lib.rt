@@ -1,12 +1,4 @@
 // What nas-list prints of a part, into a lent buffer: by table number, with the option on or off.
-pub mod grounds;
-pub mod put;
-pub mod verdicts;
-
-use crate::put::put;
-use crate::put::put_cut;
-use crate::put::put_end;
-use crate::put::put_line;
 use elements::element::State;
 use elements::element::Step;
 use elements::next::NextElement;
@@ -15,6 +7,11 @@ use elements::next::start_state;
 use numbered::Loaded;
 use numbered::TLVE_START;
 use numbered::load;
+use wording::MOST_LISTED;
+use wording::say;
+use wording::say_cut;
+use wording::say_end;
+use wording::say_line;
 ghost use mathlib.Core.Path.{_≡_};
 ghost use mathlib.Core.Option.{none};
 ghost use Prim.Native.Nat.{_+_, _≤_};
@@ -22,10 +19,8 @@ ghost use lib.ListN.{length};
 ghost use Rattle.definitions.specs.Elements.{elementsOf};
 ghost use Rattle.definitions.specs.Rows.{rowsOf, firstBad};
 ghost use Rattle.definitions.specs.Listing.{lines, listingBy};
-ghost use Rattle.listing.specs.Puts.{Put};
+ghost use Rattle.wording.specs.Puts.{Put};
 ghost use Rattle.listing.specs.Parts.{Passing, stepAt, partedBy, wholeOf, listingOf, listedAs, outAs, isRefused, isRefusedOf};
-
-pub(crate) const MOST_LISTED: usize = 4096;
 
 // No text is longer: the header, 4,096 lines of 25 octets, and the last line.
 pub const MOST_TEXT: usize = 102_429;
@@ -86,7 +81,7 @@ fn put_lines(octets: &[u8], table: &[u32], option: bool, out: &mut [u8], first: 
     loop {
         match step(octets, table, option, state) {
             Step::Next(e, next) => {
-                used = put_line(out, used, e);
+                used = say_line(out, used, e);
                 state = next;
             }
             Step::Cut(_, _, _, _) => {
@@ -104,16 +99,16 @@ fn put_text(octets: &[u8], table: &[u32], option: bool, out: &mut [u8]) -> usize
     requires { ⌜ firstBad (rowsOf (now table)) ≡ none ⌝ }
     ensures { λ r. ⌜ Put (now (out .entry)) 0 (listingBy (now (table .entry)) option (now (octets .entry))) (now (out .exit)) r × (r ≤ 102429) ⌝ }
 {
-    let used = put(out, 0, b"at len iei verdict\n");
+    let used = say(out, 0, b"at len iei verdict\n");
     if octets.len() > MOST_LISTED {
-        return put(out, used, b"too long\n");
+        return say(out, used, b"too long\n");
     }
     match read_whole(octets, table, option) {
         Whole::Elements => {
             let next = put_lines(octets, table, option, out, used);
-            put_end(out, next, octets.len())
+            say_end(out, next, octets.len())
         }
-        Whole::Cut(start, x, left, missing) => put_cut(out, used, start, x, left, missing),
+        Whole::Cut(start, x, left, missing) => say_cut(out, used, start, x, left, missing),
     }
 }
 

@@ -5,7 +5,7 @@ use arguments::streams::FAILED;
 use arguments::streams::read_part;
 use arguments::streams::tell;
 use arguments::streams::write_text;
-use listing::grounds::why_text;
+use grounds::why_text;
 
 // One octet more than a part may have, so that a longer part is seen.
 const MOST_READ: usize = 4097;

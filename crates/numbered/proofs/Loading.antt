@@ -2,8 +2,8 @@
 use Prim.Native.Nat.{ℕ, _≤_}
 use native.Mathlib.Omega.{arith}
 use mathlib.Core.Path.{_≡_, refl, ap, _∙_}
-use mathlib.Core.List.{List, [], _++_}
-use mathlib.Core.Option.{Option, none, some, Option·map, Option·getD, Option·some-injective}
+use mathlib.Core.List.{List, _++_}
+use mathlib.Core.Option.{Option, none, some, Option·map, Option·some-injective}
 use lib.ListN.{length, take, drop, length-append}
 use lib.Seq.{take-append-seam}
 use Rattle.definitions.specs.Basic.{over}
@@ -11,8 +11,7 @@ use Rattle.definitions.specs.Rows.{rowsOf, firstBad, index}
 use Rattle.definitions.specs.Tables.{tableOf}
 use Rattle.rows.specs.Indexed.{Indexed}
 use Rattle.rows.proofs.Indexed.{indexed}
-use Rattle.real.specs.Real.{realOf}
-use Rattle.real.proofs.RealLaws.{real}
+use Rattle.real.proofs.RealLaws.{passes-of}
 use Rattle.numbered.specs.Loads.{Loads, tableIn, indexIn}
 use Rattle.numbered.specs.declared.Loaded.{Loaded}
 
@@ -38,8 +37,7 @@ is-loaded {number} {n} {table} {index₀} {table′} {index′} l = go (tableOf 
         let m : n ≡ length t = Option·some-injective n (length t) (l .answers ∙ ap (Option·map length) e) in
         let w : table′ ≡ t ++ drop (length t) table = l .table-is ∙ ap (λ (o : Option (List ℕ)). tableIn o table) e in
         let f : take n table′ ≡ t = rw w (rw m (take-append-seam t (drop (length t) table))) in
-        let q : realOf number ≡ t = ap (λ (o : Option (List ℕ)). Option·getD o []) e in
-        let p : firstBad (rowsOf t) ≡ none = rw (← q) (real number .passes) in
+        let p : firstBad (rowsOf t) ≡ none = passes-of number e in
         let i : index′ ≡ index (rowsOf t) = l .index-is ∙ ap (λ (o : Option (List ℕ)). indexIn o index₀) e in
         record {
           within = omega (arith, m, ap length w ∙ length-append t (drop (length t) table));

@@ -1,10 +1,10 @@
 -- The constant tables and their indexes: one test, which is computed over a whole table and its index, and one law that turns it into
 -- the rule: the table passes the check, and each entry is the place of its IEI, or 255. It is used once for each table.
 use Prim.Native.Nat.{ℕ, zero, suc, _<_}
-use mathlib.Core.Path.{_≡_, refl, ap₂}
+use mathlib.Core.Path.{_≡_, refl, ap, ap₂}
 use mathlib.Core.List.{List, [], _∷_}
 use mathlib.Core.Bool.{Bool, true, false, _&&_}
-use mathlib.Core.Option.{Option, none, some}
+use mathlib.Core.Option.{Option, none, some, Option·getD}
 use borrow.Author.Tests.{eqb-true}
 use lib.Dec.{eqb}
 use Rattle.definitions.specs.Basic.{isNone, among, concat}
@@ -66,6 +66,10 @@ real (suc (suc (suc (suc zero)))) = rule optional4 index4 refl
 real (suc (suc (suc (suc (suc zero))))) = rule optional5 index5 refl
 real (suc (suc (suc (suc (suc (suc zero)))))) = rule optional6 index6 refl
 real (suc (suc (suc (suc (suc (suc (suc n))))))) = rule [] (realIndexOf 7) refl
+
+-- a table that a number names passes its check
+pub passes-of : (number : ℕ) {t : List ℕ} → tableOf number ≡ some t → firstBad (rowsOf t) ≡ none
+passes-of number e = let q : realOf number ≡ _ = ap (λ (o : Option (List ℕ)). Option·getD o []) e in rw (← q) (real number .passes)
 
 -- the mandatory rows of each pass their check
 pub real-mandatory : (n : ℕ) → firstBadMandatory (mandatoryRowsOf (realMandatoryOf n)) ≡ none

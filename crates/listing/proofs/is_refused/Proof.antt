@@ -1,10 +1,7 @@
 -- `is_refused` goes by the table that the number names.
 -- One that is loaded is the definitions', and passes; where none is, the definition says what is answered.
-use mathlib.Core.Path.{refl, ap, sym, _∙_}
-use native.Mathlib.Omega.{arith}
-use lib.ListN.{length}
+use mathlib.Core.Path.{refl, sym}
 use lib.Seq.{length-take-le}
-use Rattle.definitions.specs.Basic.{over}
 use Rattle.listing.proofs.Reading.{refused-of}
 use Rattle.numbered.proofs.Loading.{is-loaded, none-loaded}
 use borrow.Author.Needs.{needs}

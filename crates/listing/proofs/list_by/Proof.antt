@@ -6,7 +6,7 @@ use lib.ListN.{length}
 use borrow.Author.Tests.{le-leb, lt-leb}
 use Rattle.definitions.specs.Listing.{listingBy}
 use Rattle.listing.specs.declared.Listed.{Listed}
-use Rattle.listing.proofs.Puts.{put-whole}
+use Rattle.wording.proofs.Puts.{put-whole}
 use borrow.Author.Needs.{needs}
 use Rattle.listing.proofs.list_by.Statement.{statement}
 use Rattle.listing.proofs.list_by.Tie as tie

@@ -1,6 +1,6 @@
 -- `list_part` goes by the table that the number names.
 -- One that is loaded is the definitions', and passes; where none is, the definition says what is answered.
-use mathlib.Core.Path.{refl, ap, sym, _∙_}
+use mathlib.Core.Path.{refl, sym}
 use native.Mathlib.Omega.{arith}
 use lib.ListN.{length}
 use lib.Seq.{length-take-le}

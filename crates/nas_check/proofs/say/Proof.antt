@@ -1,6 +1,6 @@
 -- `say` writes the front of the array, which has the text.
 -- A text that stands in the front fits.
-use Rattle.listing.proofs.Answers.{front-fits}
+use Rattle.wording.proofs.Puts.{front-fits}
 use mathlib.Core.Path.{sym}
 use lib.Seq.{length-take-le}
 use borrow.Author.Needs.{needs}

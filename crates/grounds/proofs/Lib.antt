@@ -1,0 +1,3 @@
+-- Laws that the proofs of this crate cite, and examples.
+pub mod Saying
+pub mod Examples
