@@ -1,5 +1,5 @@
-// Whether an optional part that another program made is accepted: the part's octets on standard input, the verdict on standard output.
-// The argument is the table number, as bin/launch hands it over.
+// Whether an optional part that another program made is accepted: the part on standard input, the verdict on standard output. The
+// arguments, as bin/launch hands them over: 1 the table number, 4 whether the part is text in hex.
 use arguments::argument_or;
 use arguments::streams::FAILED;
 use arguments::streams::read_part;

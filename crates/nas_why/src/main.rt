@@ -1,5 +1,5 @@
-// Why an element of an optional part was set aside: the part's octets on standard input, one line on standard output. The arguments
-// are the table number, whether the option is on, 0 or 1, and the element's number, as bin/launch hands them over.
+// Why an element of an optional part was set aside: the part on standard input, one line on standard output. The arguments, as
+// bin/launch hands them over: 1 the table number, 2 whether the option is on, 3 the element's number, 4 whether the part is text in hex.
 use arguments::argument_or;
 use arguments::streams::FAILED;
 use arguments::streams::read_part;
