@@ -1,186 +1,82 @@
 // Runs the recorded list on standard input through our reading, and prints how many cases there are of each number, how many
 // answers are the recorded ones in number, values and all lent memory, and each case that is not. README.md has the format.
-use octets::Cursor;
-use octets::Four;
-use octets::Pair;
+ghost use Prim.Native.Nat.{_≤_};
+use answers::decoded_said;
 use octets::part;
-use octets::put_slice;
 use reading::decode::Decoded;
-use reading::decode::Room;
 use reading::decode::decode_optional_ies;
 use reading::decode::decode_optional_ies_by;
-
-// What all lent memory holds before a case.
-const LENT: u8 = 0xa5;
-
-const LENT_NUMBER: u32 = 0xa5a5_a5a5;
-
-// No list is longer.
-const MOST: usize = 16_777_216;
+use recorded::after;
+use recorded::cell;
+use recorded::counts::print_counts;
+use recorded::counts::report;
+use recorded::four;
+use recorded::front;
+use recorded::lent::LENT;
+use recorded::lent::LENT_NUMBER;
+use recorded::lent::get_numbers;
+use recorded::lent::get_string;
+use recorded::lent::output_is;
+use recorded::number;
+use recorded::numbers_end;
+use recorded::octet;
+use recorded::string_end;
+use recorded::string_len;
+use recorded::two;
 
 const LENT_TABLE: u8 = 255;
 
-// A case of the list: how it is read, what is lent, and where its parts stand.
+// A case of the list: how it is read, how much is lent, and where its parts stand.
 struct Case {
     table: u8,
     start: u8,
     option: bool,
-    cells: usize,
     rows: usize,
     kept: usize,
     order: usize,
-    cells_at: usize,
+    table_at: usize,
     part_at: usize,
     said_at: usize,
     places_at: usize,
     kept_at: usize,
     order_at: usize,
-    end: usize,
 }
 
-fn octet(list: &[u8], at: usize) -> u8 {
-    if at < list.len() {
-        return list[at];
-    }
-    0
+fn behind_values(list: &[u8], at: usize) -> usize {
+    after(at, 2 + 4 * (octet(list, after(at, 1)) as usize))
 }
 
-fn two(list: &[u8], at: usize) -> u16 {
-    let cursor = Cursor { at: at };
-    match cursor.get_u16(list) {
-        Pair::Is(x, _) => x,
-        Pair::Short => 0,
-    }
-}
-
-fn four(list: &[u8], at: usize) -> u32 {
-    let cursor = Cursor { at: at };
-    match cursor.get_u32(list) {
-        Four::Is(x, _) => x,
-        Four::Short => 0,
-    }
-}
-
-// Behind so many octets.
-fn after(at: usize, n: usize) -> usize {
-    if at > MOST {
-        return at;
-    }
-    if n > MOST {
-        return at;
-    }
-    at + n
-}
-
-fn after_numbers(at: usize, n: usize) -> usize {
-    if n > MOST {
-        return at;
-    }
-    after(at, 4 * n)
-}
-
-fn after_places(at: usize, n: u8) -> usize {
-    after(at, 6 * (n as usize))
-}
-
-fn counted(list: &[u8], at: usize) -> usize {
-    two(list, at) as usize
-}
-
-fn number(list: &[u8], at: usize) -> usize {
-    four(list, at) as usize
-}
-
-// A string: the octets that stand there, and the octet that follows so many times.
-fn repeat_at(list: &[u8], at: usize) -> usize {
-    after(after(at, 2), counted(list, at))
-}
-
-fn string_end(list: &[u8], at: usize) -> usize {
-    after(repeat_at(list, at), 3)
-}
-
-fn string_len(list: &[u8], at: usize) -> usize {
-    after(counted(list, at), counted(list, repeat_at(list, at)))
+fn behind_places(list: &[u8], at: usize) -> usize {
+    after(at, 1 + 6 * (octet(list, at) as usize))
 }
 
 fn case_at(list: &[u8], at: usize) -> Case {
-    let cells = counted(list, after(at, 3));
-    let cells_at = after(at, 5);
-    let room_at = after_numbers(cells_at, cells);
+    let table_at = after(at, 3);
+    let room_at = numbers_end(list, table_at);
     let part_at = after(room_at, 10);
     let said_at = string_end(list, part_at);
-    let values = octet(list, after(said_at, 1)) as usize;
-    let places_at = after_numbers(after(said_at, 2), values);
-    let kept_at = after_places(after(places_at, 1), octet(list, places_at));
-    let order_at = string_end(list, kept_at);
+    let places_at = behind_values(list, said_at);
+    let kept_at = behind_places(list, places_at);
     Case {
         table: octet(list, at),
         start: octet(list, after(at, 1)),
         option: octet(list, after(at, 2)) != 0,
-        cells: cells,
-        rows: counted(list, room_at),
+        rows: two(list, room_at),
         kept: number(list, after(room_at, 2)),
         order: number(list, after(room_at, 6)),
-        cells_at: cells_at,
+        table_at: table_at,
         part_at: part_at,
         said_at: said_at,
         places_at: places_at,
         kept_at: kept_at,
-        order_at: order_at,
-        end: string_end(list, order_at),
+        order_at: string_end(list, kept_at),
     }
 }
 
-fn fill(out: &mut [u8], x: u8) {
-    let mut i = 0;
-    while i < out.len() {
-        out[i] = x;
-        i += 1;
-    }
-}
+// ---- place rows
 
-fn fill_numbers(out: &mut [u32], x: u32) {
-    let mut i = 0;
-    while i < out.len() {
-        out[i] = x;
-        i += 1;
-    }
-}
-
-fn get_numbers(list: &[u8], at: usize, out: &mut [u32]) {
-    let mut p = at;
-    let mut i = 0;
-    while i < out.len() {
-        out[i] = four(list, p);
-        p = after(p, 4);
-        i += 1;
-    }
-}
-
-// A string into a buffer of its length.
-fn get_string(list: &[u8], at: usize, out: &mut [u8]) {
-    let repeat = repeat_at(list, at);
-    fill(out, octet(list, after(repeat, 2)));
-    put_slice(out, part(list, after(at, 2), counted(list, at)));
-}
-
-fn same(a: &[u8], b: &[u8]) -> bool {
-    if a.len() != b.len() {
-        return false;
-    }
-    let mut i = 0;
-    while i < a.len() {
-        if octet(a, i) != octet(b, i) {
-            return false;
-        }
-        i += 1;
-    }
-    true
-}
-
-fn all(s: &[u8], x: u8) -> bool {
-    let mut i = 0;
+fn is_from(s: &[u32], at: usize, x: u32) -> bool {
+    let mut i = at;
     while i < s.len() {
         if s[i] != x {
             return false;
@@ -190,319 +86,205 @@ fn all(s: &[u8], x: u8) -> bool {
     true
 }
 
-fn cell(s: &[u32], at: usize) -> u32 {
-    if at < s.len() {
-        return s[at];
-    }
-    0
+fn row_is(rows: &[u32], at: usize, source: usize, start: usize, len: usize, iei: usize) -> bool {
+    cell(rows, at) as usize == source
+        && cell(rows, after(at, 1)) as usize == start
+        && cell(rows, after(at, 2)) as usize == len
+        && cell(rows, after(at, 3)) as usize == iei
 }
 
-// Numbers from one position to another.
-fn all_numbers(s: &[u32], from: usize, to: usize, x: u32) -> bool {
-    let mut i = from;
-    while i < to {
-        if cell(s, i) != x {
-            return false;
-        }
-        i += 1;
+// Whether a row is the recorded place there, or four times 0.
+fn place_is(list: &[u8], at: usize, is_present: bool, rows: &[u32], row_at: usize) -> bool {
+    if !is_present {
+        return row_is(rows, row_at, 0, 0, 0, 0);
     }
-    true
+    row_is(
+        rows,
+        row_at,
+        1,
+        two(list, after(at, 1)),
+        two(list, after(at, 3)),
+        octet(list, after(at, 5)) as usize,
+    )
 }
 
-// Whether a lent log holds a string, and what it held before behind it.
-fn log_is(list: &[u8], at: usize, log: &[u8]) -> bool {
-    let repeat = repeat_at(list, at);
-    let front = counted(list, at);
-    let used = string_len(list, at);
-    if log.len() < used {
-        return false;
-    }
-    if !same(part(list, after(at, 2), front), part(log, 0, front)) {
-        return false;
-    }
-    if !all(
-        part(log, front, counted(list, repeat)),
-        octet(list, after(repeat, 2)),
-    ) {
-        return false;
-    }
-    all(part(log, used, log.len()), LENT)
+// Whether the next recorded place, if there is one, is k.
+fn is_next(list: &[u8], at: usize, end: usize, k: usize) -> bool {
+    at < end && octet(list, at) as usize == k
 }
 
-fn put_zero(rows: &mut [u32], at: usize) {
-    if at < rows.len() {
-        rows[at] = 0;
+fn behind_place(at: usize, is_present: bool) -> usize {
+    if is_present {
+        return after(at, 6);
     }
+    at
 }
 
-// Whether a place is the recorded one; its numbers are then made 0.
-fn place_is(list: &[u8], at: usize, rows: &mut [u32]) -> bool {
-    let place = 4 * (octet(list, at) as usize);
-    let is_start = cell(rows, place + 1) as usize == counted(list, after(at, 1));
-    let is_len = cell(rows, place + 2) as usize == counted(list, after(at, 3));
-    let is_iei = cell(rows, place + 3) == octet(list, after(at, 5)) as u32;
-    if cell(rows, place) != 1 {
-        return false;
-    }
-    put_zero(rows, place);
-    put_zero(rows, place + 1);
-    put_zero(rows, place + 2);
-    put_zero(rows, place + 3);
-    is_start && is_len && is_iei
-}
-
-// Whether the present places are the recorded ones; their numbers are then 0.
-fn places_are(list: &[u8], at: usize, rows: &mut [u32]) -> bool {
-    let n = octet(list, at);
+// Whether n rows are the recorded places, which stand in their order, and what was lent behind them.
+fn places_are(list: &[u8], at: usize, end: usize, n: usize, rows: &[u32]) -> bool {
     let mut p = after(at, 1);
-    let mut k = 0u8;
+    let mut row_at = 0;
+    let mut k = 0;
     while k < n {
-        if !place_is(list, p, rows) {
+        let is_present = is_next(list, p, end, k);
+        if !place_is(list, p, is_present, rows, row_at) {
             return false;
         }
-        p = after(p, 6);
+        p = behind_place(p, is_present);
+        row_at = after(row_at, 4);
         k += 1;
     }
-    true
+    p == end && is_from(rows, row_at, LENT_NUMBER)
 }
 
-// How many place rows the table of a case has, in numbers.
-fn table_rows(c: Case) -> usize {
-    if c.table == LENT_TABLE {
-        return 4 * (c.cells / 10);
-    }
-    let table = c.table;
-    match table {
-        0 => 20,
-        1 => 128,
-        2 => 156,
-        3 => 24,
-        4 => 16,
-        5 => 52,
-        6 => 64,
-        _ => 0,
+// How many rows a table has.
+fn table_rows(number: u8, cells: usize) -> usize {
+    match number {
+        0 => 5,
+        1 => 32,
+        2 => 39,
+        3 => 6,
+        4 => 4,
+        5 => 13,
+        6 => 16,
+        _ => cells / 10,
     }
 }
 
-fn rows_are(list: &[u8], c: Case, rows: &mut [u32]) -> bool {
+// A refusal writes none.
+fn rows_written(list: &[u8], c: Case) -> usize {
     if octet(list, c.said_at) != 0 {
-        return all_numbers(rows, 0, rows.len(), LENT_NUMBER);
+        return 0;
     }
-    let n = table_rows(c);
-    if !places_are(list, c.places_at, rows) {
-        return false;
-    }
-    if !all_numbers(rows, 0, n, 0) {
-        return false;
-    }
-    all_numbers(rows, n, rows.len(), LENT_NUMBER)
+    table_rows(c.table, two(list, c.table_at))
 }
 
-// Whether a number and how many values it has are the recorded ones.
-fn numbered(list: &[u8], at: usize, x: u8, values: u8) -> bool {
-    octet(list, at) == x && octet(list, after(at, 1)) == values
+// ---- the answer
+
+// Whether a value is the recorded one there, where the answer has it.
+fn value_is(list: &[u8], at: usize, is_there: bool, x: u64) -> bool {
+    !is_there || four(list, at) as u64 == x
 }
 
-fn value_is(list: &[u8], at: usize, k: usize, x: usize) -> bool {
-    number(list, after_numbers(after(at, 2), k)) == x
+fn values_are(list: &[u8], at: usize, values: &[u64; 5]) -> bool {
+    value_is(list, at, values[0] > 0, values[1])
+        && value_is(list, after(at, 4), values[0] > 1, values[2])
+        && value_is(list, after(at, 8), values[0] > 2, values[3])
+        && value_is(list, after(at, 12), values[0] > 3, values[4])
 }
 
-fn room_is(list: &[u8], at: usize, x: usize) -> bool {
-    numbered(list, at, 2, 1) && value_is(list, at, 0, x)
-}
-
-fn no_room_is(list: &[u8], at: usize, room: Room) -> bool {
-    match room {
-        Room::Rows => room_is(list, at, 1),
-        Room::Kept => room_is(list, at, 2),
-        Room::Order => room_is(list, at, 3),
-    }
-}
-
-fn cut_is(list: &[u8], at: usize, start: usize, x: u8, left: usize, missing: usize) -> bool {
-    numbered(list, at, 1, 4)
-        && value_is(list, at, 0, start)
-        && value_is(list, at, 1, x as usize)
-        && value_is(list, at, 2, left)
-        && value_is(list, at, 3, missing)
-}
-
-fn done_is(list: &[u8], at: usize, kept: usize, order: usize) -> bool {
-    numbered(list, at, 0, 2) && value_is(list, at, 0, kept) && value_is(list, at, 1, order)
-}
-
+// Whether the number, how many values it has, and these are the recorded ones.
 fn said_is(list: &[u8], at: usize, said: Decoded) -> bool {
-    match said {
-        Decoded::Done(kept, order) => done_is(list, at, kept, order),
-        Decoded::CutShort(start, x, left, missing) => cut_is(list, at, start, x, left, missing),
-        Decoded::NoRoom(room) => no_room_is(list, at, room),
-        Decoded::TooLong => numbered(list, at, 3, 0),
-        Decoded::BadTable(row) => numbered(list, at, 4, 1) && value_is(list, at, 0, row),
-        Decoded::NoTable => numbered(list, at, 5, 0),
-    }
+    let mut values = [0u64; 5];
+    let number = decoded_said(said, &mut values);
+    octet(list, at) as u32 == number
+        && octet(list, after(at, 1)) as u64 == values[0]
+        && values_are(list, after(at, 2), &values)
 }
 
-// A part by the table of its case.
+// ---- a case
+
+fn logs_are(list: &[u8], c: Case, kept: &[u8; 70000], order: &[u8; 70000]) -> bool {
+    output_is(list, c.kept_at, part(kept, 0, c.kept))
+        && output_is(list, c.order_at, part(order, 0, c.order))
+}
+
+fn rows_are(list: &[u8], c: Case, rows: &[u32; 192]) -> bool {
+    places_are(
+        list,
+        c.places_at,
+        c.kept_at,
+        rows_written(list, c),
+        front(rows, c.rows),
+    )
+}
+
+// A part by the table of its case, with all of its lent memory.
 fn read(
-    c: Case,
+    number: u8,
+    start: u8,
+    option: bool,
     octets: &[u8],
     table: &[u32],
     rows: &mut [u32],
     kept: &mut [u8],
     order: &mut [u8],
 ) -> Decoded {
-    if c.table == LENT_TABLE {
-        return decode_optional_ies(octets, table, c.start, c.option, rows, kept, order);
+    if number == LENT_TABLE {
+        return decode_optional_ies(octets, table, start, option, rows, kept, order);
     }
-    decode_optional_ies_by(c.table as u32, octets, c.option, rows, kept, order)
+    decode_optional_ies_by(number as u32, octets, option, rows, kept, order)
 }
 
-fn judge(
-    list: &[u8],
-    c: Case,
-    octets: &[u8],
-    table: &[u32],
-    rows: &mut [u32],
-    kept: &mut [u8],
-    order: &mut [u8],
-) -> bool {
-    fill_numbers(rows, LENT_NUMBER);
-    fill(kept, LENT);
-    fill(order, LENT);
-    let said = read(c, octets, table, rows, kept, order);
-    let is_said = said_is(list, c.said_at, said);
-    let is_kept = log_is(list, c.kept_at, kept);
-    let is_order = log_is(list, c.order_at, order);
-    let is_rows = rows_are(list, c, rows);
-    is_said && is_kept && is_order && is_rows
+fn run_table(list: &[u8], c: Case, octets: &[u8], table: &[u32]) -> bool
+    requires { ⌜ (c .rows ≤ 192) × (c .kept ≤ 70000) × (c .order ≤ 70000) ⌝ }
+{
+    let n = c.rows;
+    let k = c.kept;
+    let o = c.order;
+    let mut rows = [LENT_NUMBER; 192];
+    let mut kept = [LENT; 70000];
+    let mut order = [LENT; 70000];
+    let said = read(
+        c.table,
+        c.start,
+        c.option,
+        octets,
+        table,
+        &mut rows[..n],
+        &mut kept[..k],
+        &mut order[..o],
+    );
+    said_is(list, c.said_at, said) && rows_are(list, c, &rows) && logs_are(list, c, &kept, &order)
 }
 
-// A case in exactly what it asks for.
-fn run_exact(
-    list: &[u8],
-    c: Case,
-    octets: &mut [u8],
-    table: &mut [u32],
-    rows: &mut [u32],
-    kept: &mut [u8],
-    order: &mut [u8],
-) -> bool {
-    get_string(list, c.part_at, octets);
-    get_numbers(list, c.cells_at, table);
-    judge(list, c, octets, table, rows, kept, order)
+fn run_part(list: &[u8], c: Case, octets: &[u8]) -> bool
+    requires { ⌜ (c .rows ≤ 192) × (c .kept ≤ 70000) × (c .order ≤ 70000) ⌝ }
+{
+    let mut table = [0u32; 64];
+    get_numbers(list, c.table_at, &mut table);
+    run_table(list, c, octets, front(&table, two(list, c.table_at)))
 }
 
-// A case in what is lent for all of them; one that asks for more is not the recorded one.
-fn run_case(
-    list: &[u8],
-    c: Case,
-    octets: &mut [u8],
-    table: &mut [u32],
-    rows: &mut [u32],
-    kept: &mut [u8],
-    order: &mut [u8],
-) -> bool {
+// A case in what there is room for; one that asks for more is not the recorded one.
+fn run_case(list: &[u8], c: Case) -> bool {
     let n = string_len(list, c.part_at);
-    if n > octets.len() {
+    if n > 65536 {
         return false;
     }
-    if c.cells > table.len() {
+    if two(list, c.table_at) > 64 {
         return false;
     }
-    if c.rows > rows.len() {
+    if c.rows > 192 {
         return false;
     }
-    if c.kept > kept.len() {
+    if c.kept > 70000 {
         return false;
     }
-    if c.order > order.len() {
+    if c.order > 70000 {
         return false;
     }
-    run_exact(
-        list,
-        c,
-        &mut octets[..n],
-        &mut table[..c.cells],
-        &mut rows[..c.rows],
-        &mut kept[..c.kept],
-        &mut order[..c.order],
-    )
+    let mut octets = [0u8; 65536];
+    get_string(list, c.part_at, &mut octets);
+    run_part(list, c, part(&octets, 0, n))
 }
 
-// One more of a count.
-fn bump(counts: &mut [u32], k: usize) {
-    if k < counts.len() {
-        let x = counts[k];
-        if x < 1_000_000_000 {
-            counts[k] = x + 1;
-        }
-    }
-}
-
-fn print_count(text: &[u8], n: u32) {
-    io::write_all(1, text);
-    io::print_decimal(1, n as u64);
-    io::write_all(1, b"\n");
-}
-
-fn report(counts: &mut [u32], is_same: bool, k: u32) {
-    if is_same {
-        bump(counts, 7);
-    } else {
-        print_count(b"another answer to case ", k);
-    }
-}
-
-// All cases; the count of each number, and in the last place that of the recorded answers.
-fn run_list(
-    list: &[u8],
-    octets: &mut [u8],
-    table: &mut [u32],
-    rows: &mut [u32],
-    kept: &mut [u8],
-    order: &mut [u8],
-    counts: &mut [u32],
-) {
+// All cases.
+fn run_list(list: &[u8], counts: &mut [u32]) {
     let n = four(list, 0);
     let mut at = 4;
     let mut k = 0u32;
     while k < n {
         let c = case_at(list, at);
-        bump(counts, octet(list, c.said_at) as usize);
-        let is_same = run_case(list, c, octets, table, rows, kept, order);
-        report(counts, is_same, k);
-        at = c.end;
+        report(counts, octet(list, c.said_at), run_case(list, c), k);
+        at = string_end(list, c.order_at);
         k += 1;
     }
 }
 
-fn print_counts(cases: u32, counts: &[u32]) {
-    print_count(b"done ", cell(counts, 0));
-    print_count(b"refusal 1 ", cell(counts, 1));
-    print_count(b"refusal 2 ", cell(counts, 2));
-    print_count(b"refusal 3 ", cell(counts, 3));
-    print_count(b"refusal 4 ", cell(counts, 4));
-    print_count(b"refusal 5 ", cell(counts, 5));
-    print_count(b"cases ", cases);
-    print_count(b"recorded answers ", cell(counts, 7));
-}
-
 fn run_all(list: &[u8]) {
-    let mut octets = [0u8; 65536];
-    let mut table = [0u32; 64];
-    let mut rows = [0u32; 192];
-    let mut kept = [0u8; 70000];
-    let mut order = [0u8; 70000];
-    let mut counts = [0u32; 8];
-    run_list(
-        list,
-        &mut octets,
-        &mut table,
-        &mut rows,
-        &mut kept,
-        &mut order,
-        &mut counts,
-    );
+    let mut counts = [0u32; 257];
+    run_list(list, &mut counts);
     print_counts(four(list, 0), &counts);
 }
 

@@ -1,7 +1,8 @@
 // Runs the recorded list on standard input through our reading and writing of mandatory rows, and prints how many cases there are of each number,
 // how many answers are the recorded ones in number, values, notes and all lent output, and each case that is not. README.md has the format.
+use answers::mandated_said;
+use answers::wrote_said;
 use mandatory::by::decode_mandatory_ies_by;
-use mandatory::decode::Mandated;
 use mandatory::decode::MandatoryRead;
 use mandatory::decode::decode_mandatory_ies;
 use mandatory::notes::Note;
@@ -9,25 +10,30 @@ use mandatory::notes::Notes;
 use mandatory_writing::by::encode_mandatory_ies_by;
 use mandatory_writing::encode::MandatoryWrote;
 use mandatory_writing::encode::encode_mandatory_ies;
-use octets::Cursor;
-use octets::Four;
-use octets::Pair;
 use octets::part;
-use octets::put_slice;
-
-// What lent output holds before a case.
-const LENT: u8 = 0xa5;
-
-const LENT_NUMBER: u32 = 0xa5a5_a5a5;
+use recorded::after;
+use recorded::answer_end;
+use recorded::counts::print_counts;
+use recorded::counts::report;
+use recorded::four;
+use recorded::front;
+use recorded::lent::LENT;
+use recorded::lent::LENT_NUMBER;
+use recorded::lent::get_numbers;
+use recorded::lent::get_string;
+use recorded::lent::numbers_are;
+use recorded::lent::output_is;
+use recorded::number;
+use recorded::numbers_end;
+use recorded::octet;
+use recorded::string_end;
+use recorded::string_len;
+use recorded::two;
+use recorded::used;
+use recorded::used_end;
 
 // The kind of a reading; any other is a writing.
 const READING: u8 = 4;
-
-// Where the recorded answers are counted: behind all numbers.
-const SAME: usize = 256;
-
-// No list is longer.
-const MOST: usize = 16_777_216;
 
 const LENT_TABLE: u8 = 255;
 
@@ -47,80 +53,6 @@ struct Case {
     written_at: usize,
     notes_at: usize,
     end: usize,
-}
-
-fn octet(list: &[u8], at: usize) -> u8 {
-    if at < list.len() {
-        return list[at];
-    }
-    0
-}
-
-fn two(list: &[u8], at: usize) -> u16 {
-    let cursor = Cursor { at: at };
-    match cursor.get_u16(list) {
-        Pair::Is(x, _) => x,
-        Pair::Short => 0,
-    }
-}
-
-fn four(list: &[u8], at: usize) -> u32 {
-    let cursor = Cursor { at: at };
-    match cursor.get_u32(list) {
-        Four::Is(x, _) => x,
-        Four::Short => 0,
-    }
-}
-
-// Behind so many octets.
-fn after(at: usize, n: usize) -> usize {
-    if at > MOST {
-        return at;
-    }
-    if n > MOST {
-        return at;
-    }
-    at + n
-}
-
-fn counted(list: &[u8], at: usize) -> usize {
-    two(list, at) as usize
-}
-
-fn number(list: &[u8], at: usize) -> usize {
-    four(list, at) as usize
-}
-
-// Numbers: how many, and so many.
-fn numbers_end(list: &[u8], at: usize) -> usize {
-    after(after(at, 2), 4 * (two(list, at) as usize))
-}
-
-// A string: the octets that stand there, and the octet that follows so many times.
-fn repeat_at(list: &[u8], at: usize) -> usize {
-    after(after(at, 2), counted(list, at))
-}
-
-fn string_end(list: &[u8], at: usize) -> usize {
-    after(repeat_at(list, at), 3)
-}
-
-fn string_len(list: &[u8], at: usize) -> usize {
-    after(counted(list, at), counted(list, repeat_at(list, at)))
-}
-
-// A string, and how many of its octets are used.
-fn used_end(list: &[u8], at: usize) -> usize {
-    after(string_end(list, at), 4)
-}
-
-fn used(list: &[u8], at: usize) -> usize {
-    number(list, string_end(list, at))
-}
-
-// An answer: its number, how many values, and so many of eight octets.
-fn answer_end(list: &[u8], at: usize) -> usize {
-    after(after(at, 2), 8 * (octet(list, after(at, 1)) as usize))
 }
 
 fn reading_at(list: &[u8], at: usize) -> Case {
@@ -174,136 +106,18 @@ fn case_at(list: &[u8], at: usize) -> Case {
     writing_at(list, at)
 }
 
-fn fill(out: &mut [u8], x: u8) {
-    let mut i = 0;
-    while i < out.len() {
-        out[i] = x;
-        i += 1;
-    }
+// Whether a value is the recorded one there, where the answer has it; all recorded ones have at most 32 bits.
+fn value_is(list: &[u8], at: usize, is_there: bool, x: u64) -> bool {
+    !is_there || (four(list, at) == 0 && four(list, after(at, 4)) as u64 == x)
 }
 
-fn fill_numbers(out: &mut [u32], x: u32) {
-    let mut i = 0;
-    while i < out.len() {
-        out[i] = x;
-        i += 1;
-    }
-}
-
-// Numbers into the front of a buffer; 0 behind the list.
-fn get_numbers(list: &[u8], at: usize, out: &mut [u32]) {
-    let mut p = after(at, 2);
-    let mut i = 0;
-    while i < out.len() {
-        out[i] = four(list, p);
-        p = after(p, 4);
-        i += 1;
-    }
-}
-
-// A string into the front of a buffer.
-fn get_string(list: &[u8], at: usize, out: &mut [u8]) {
-    let repeat = repeat_at(list, at);
-    fill(out, octet(list, after(repeat, 2)));
-    put_slice(out, part(list, after(at, 2), counted(list, at)));
-}
-
-fn same(a: &[u8], b: &[u8]) -> bool {
-    if a.len() != b.len() {
-        return false;
-    }
-    let mut i = 0;
-    while i < a.len() {
-        if octet(a, i) != octet(b, i) {
-            return false;
-        }
-        i += 1;
-    }
-    true
-}
-
-fn all(s: &[u8], x: u8) -> bool {
-    let mut i = 0;
-    while i < s.len() {
-        if s[i] != x {
-            return false;
-        }
-        i += 1;
-    }
-    true
-}
-
-// Whether output holds a string, and what it held before behind it.
-fn output_is(list: &[u8], at: usize, output: &[u8]) -> bool {
-    let repeat = repeat_at(list, at);
-    let front = counted(list, at);
-    let used = string_len(list, at);
-    if output.len() < used {
-        return false;
-    }
-    if !same(part(list, after(at, 2), front), part(output, 0, front)) {
-        return false;
-    }
-    if !all(
-        part(output, front, counted(list, repeat)),
-        octet(list, after(repeat, 2)),
-    ) {
-        return false;
-    }
-    all(part(output, used, output.len()), LENT)
-}
-
-// Whether a number with no value is the recorded one.
-fn none_is(list: &[u8], at: usize, x: u8) -> bool {
-    octet(list, at) == x && octet(list, after(at, 1)) == 0
-}
-
-// The same with one value; all recorded ones have at most 32 bits.
-fn one_is(list: &[u8], at: usize, x: u8, value: u64) -> bool {
-    octet(list, at) == x
-        && octet(list, after(at, 1)) == 1
-        && four(list, after(at, 2)) == 0
-        && four(list, after(at, 6)) as u64 == value
-}
-
-// The same with two values.
-fn two_are(list: &[u8], at: usize, x: u8, first: u64, second: u64) -> bool {
-    octet(list, at) == x
-        && octet(list, after(at, 1)) == 2
-        && four(list, after(at, 2)) == 0
-        && four(list, after(at, 6)) as u64 == first
-        && four(list, after(at, 10)) == 0
-        && four(list, after(at, 14)) as u64 == second
-}
-
-fn cell(s: &[u32], at: usize) -> u32 {
-    if at < s.len() {
-        return s[at];
-    }
-    0
-}
-
-// The recorded number there, or what was lent behind them.
-fn recorded_or_lent(list: &[u8], at: usize, is_recorded: bool) -> u32 {
-    if is_recorded {
-        return four(list, at);
-    }
-    LENT_NUMBER
-}
-
-// Whether lent numbers are the recorded ones, and what was lent behind them.
-fn numbers_are(list: &[u8], at: usize, s: &[u32]) -> bool {
-    let n = counted(list, at);
-    let mut p = after(at, 2);
-    let mut i = 0;
-    while i < s.len() {
-        if cell(s, i) != recorded_or_lent(list, p, i < n) {
-            return false;
-        }
-        p = after(p, 4);
-        i += 1;
-    }
-    n <= s.len()
+// Whether a number, how many values it has, at most two, and these are the recorded ones.
+fn said_is(list: &[u8], at: usize, number: u32, values: &[u64; 5]) -> bool {
+    octet(list, at) as u32 == number
+        && octet(list, after(at, 1)) as u64 == values[0]
+        && values[0] < 3
+        && value_is(list, after(at, 2), values[0] > 0, values[1])
+        && value_is(list, after(at, 10), values[0] > 1, values[2])
 }
 
 // Whether a string fits so many octets.
@@ -313,18 +127,12 @@ fn fits(list: &[u8], at: usize, n: usize) -> bool {
 
 // ---- readings
 
-fn read_is(list: &[u8], at: usize, answer: Mandated, notes: u64) -> bool {
-    match answer {
-        Mandated::Done(n) => two_are(list, at, 0, n as u64, notes),
-        Mandated::NoRoom => one_is(list, at, 2, 1),
-        Mandated::TooLong => none_is(list, at, 3),
-        Mandated::BadTable(row) => one_is(list, at, 4, row as u64),
-        Mandated::NoTable => none_is(list, at, 5),
-        Mandated::Missing(row) => two_are(list, at, 6, row as u64, notes),
-        Mandated::Truncated(row) => two_are(list, at, 7, row as u64, notes),
-        Mandated::TooShort(row) => two_are(list, at, 8, row as u64, notes),
-        Mandated::Syntax(row) => two_are(list, at, 9, row as u64, notes),
-    }
+// Whether the number and its values, of which one is how many notes there are, are the recorded ones.
+fn read_is(list: &[u8], at: usize, read: MandatoryRead) -> bool {
+    let mut values = [0u64; 5];
+    let mut notes = [0u32; 64];
+    let number = mandated_said(read, &mut notes, &mut values);
+    said_is(list, at, number, &values)
 }
 
 fn note_at(notes: Notes, i: usize) -> Note {
@@ -344,7 +152,7 @@ fn note_is(list: &[u8], at: usize, is_recorded: bool, note: Note) -> bool {
 
 // Whether the notes are the recorded ones, two numbers each, and zeros behind them.
 fn notes_are(list: &[u8], at: usize, notes: Notes) -> bool {
-    let n = counted(list, at) / 2;
+    let n = two(list, at) / 2;
     let mut p = after(at, 2);
     let mut i = 0;
     while i < NOTES {
@@ -373,61 +181,50 @@ fn read_rows(
     decode_mandatory_ies_by(number as u32, received, lenient, rows)
 }
 
-fn judge_reading(list: &[u8], c: Case, table: &[u32], received: &[u8], rows: &mut [u32]) -> bool {
-    fill_numbers(rows, LENT_NUMBER);
-    let read = read_rows(list, c, table, received, rows);
-    let answer = read.answer;
-    let notes = read.notes;
-    let is_said = read_is(list, c.said_at, answer, notes.count as u64);
-    let are_rows = numbers_are(list, c.written_at, rows);
-    let are_notes = notes_are(list, c.notes_at, notes);
-    is_said && are_rows && are_notes
+fn judge_reading(list: &[u8], c: Case, read: MandatoryRead, n: usize, rows: &[u32; 32]) -> bool {
+    read_is(list, c.said_at, read)
+        && numbers_are(list, c.written_at, front(rows, n))
+        && notes_are(list, c.notes_at, read.notes)
 }
 
-// A case in the fronts of what there is for all cases; one that asks for more is not the recorded one.
-fn read_fronts(list: &[u8], c: Case, table: &[u32], received: &[u8], rows: &mut [u32]) -> bool {
-    let cells = counted(list, after(c.table_at, 1));
-    let n = counted(list, c.rows_at);
-    if cells > table.len() {
+fn read_table(list: &[u8], c: Case, table: &[u32], received: &[u8]) -> bool {
+    let n = two(list, c.rows_at);
+    if n > 32 {
         return false;
     }
-    if n > rows.len() {
-        return false;
-    }
-    judge_reading(list, c, &table[..cells], received, &mut rows[..n])
+    let mut rows = [LENT_NUMBER; 32];
+    let read = read_rows(list, c, table, received, &mut rows[..n]);
+    judge_reading(list, c, read, n, &rows)
 }
 
+// A case in what there is room for; one that asks for more is not the recorded one.
 fn run_reading(list: &[u8], c: Case) -> bool {
-    let mut table = [0u32; 32];
-    let mut rows = [0u32; 32];
-    let mut received = [0u8; 64];
+    let cells = two(list, after(c.table_at, 1));
+    if cells > 32 {
+        return false;
+    }
     if !fits(list, c.received_at, 64) {
         return false;
     }
+    let mut table = [0u32; 32];
+    let mut received = [0u8; 64];
     get_numbers(list, after(c.table_at, 1), &mut table);
     get_string(list, c.received_at, &mut received);
-    read_fronts(
+    read_table(
         list,
         c,
-        &table,
+        front(&table, cells),
         part(&received, 0, string_len(list, c.received_at)),
-        &mut rows,
     )
 }
 
 // ---- writings
 
-fn wrote_is(list: &[u8], at: usize, wrote: MandatoryWrote) -> bool {
-    match wrote {
-        MandatoryWrote::Done(n) => one_is(list, at, 0, n as u64),
-        MandatoryWrote::NoRoom => one_is(list, at, 2, 1),
-        MandatoryWrote::TooLong => none_is(list, at, 3),
-        MandatoryWrote::BadTable(row) => one_is(list, at, 4, row as u64),
-        MandatoryWrote::NoTable => none_is(list, at, 5),
-        MandatoryWrote::Unfit(row) => one_is(list, at, 10, row as u64),
-        MandatoryWrote::Malformed => one_is(list, at, 11, 3),
-        MandatoryWrote::OutputShort(need) => one_is(list, at, 12, need as u64),
-    }
+// Whether the number, its value and the output are the recorded ones.
+fn wrote_is(list: &[u8], c: Case, wrote: MandatoryWrote, n: usize, output: &[u8; 64]) -> bool {
+    let mut values = [0u64; 5];
+    let number = wrote_said(wrote, &mut values);
+    said_is(list, c.said_at, number, &values) && output_is(list, c.written_at, part(output, 0, n))
 }
 
 fn write_rows<'a>(
@@ -447,75 +244,62 @@ fn write_rows<'a>(
     encode_mandatory_ies_by(number as u32, rows, received, set, set_used, output)
 }
 
-fn judge_writing<'a>(
+fn write_output<'a>(
     list: &[u8],
     c: Case,
     table: &[u32],
     rows: &[u32],
     received: &'a [u8],
     set: &'a [u8],
-    output: &mut [u8],
 ) -> bool {
-    fill(output, LENT);
-    let wrote = write_rows(list, c, table, rows, received, set, output);
-    let is_said = wrote_is(list, c.said_at, wrote);
-    let is_output = output_is(list, c.written_at, output);
-    is_said && is_output
+    let n = number(list, c.output_at);
+    if n > 64 {
+        return false;
+    }
+    let mut output = [LENT; 64];
+    let wrote = write_rows(list, c, table, rows, received, set, &mut output[..n]);
+    wrote_is(list, c, wrote, n, &output)
 }
 
-fn write_fronts<'a>(
-    list: &[u8],
-    c: Case,
-    table: &[u32],
-    rows: &[u32],
-    received: &'a [u8],
-    set: &'a [u8],
-    output: &mut [u8],
-) -> bool {
-    let cells = counted(list, after(c.table_at, 1));
-    let places = counted(list, c.rows_at);
-    let n = number(list, c.output_at);
-    if cells > table.len() {
+fn write_numbers<'a>(list: &[u8], c: Case, received: &'a [u8], set: &'a [u8]) -> bool {
+    let cells = two(list, after(c.table_at, 1));
+    let places = two(list, c.rows_at);
+    if cells > 32 {
         return false;
     }
-    if places > rows.len() {
+    if places > 32 {
         return false;
     }
-    if n > output.len() {
-        return false;
-    }
-    judge_writing(
+    let mut table = [0u32; 32];
+    let mut rows = [0u32; 32];
+    get_numbers(list, after(c.table_at, 1), &mut table);
+    get_numbers(list, c.rows_at, &mut rows);
+    write_output(
         list,
         c,
-        &table[..cells],
-        &rows[..places],
+        front(&table, cells),
+        front(&rows, places),
         received,
         set,
-        &mut output[..n],
     )
 }
 
 fn run_writing(list: &[u8], c: Case) -> bool {
-    let mut table = [0u32; 32];
-    let mut rows = [0u32; 32];
-    let mut received = [0u8; 64];
-    let mut set = [0u8; 64];
-    let mut output = [0u8; 64];
-    if !(fits(list, c.received_at, 64) && fits(list, c.set_at, 64)) {
+    if !fits(list, c.received_at, 64) {
         return false;
     }
-    get_numbers(list, after(c.table_at, 1), &mut table);
-    get_numbers(list, c.rows_at, &mut rows);
+    if !fits(list, c.set_at, 64) {
+        return false;
+    }
+    let mut received = [0u8; 64];
+    let mut set = [0u8; 64];
     get_string(list, c.received_at, &mut received);
     get_string(list, c.set_at, &mut set);
-    write_fronts(
+    write_numbers(
         list,
         c,
-        &table,
-        &rows,
         part(&received, 0, string_len(list, c.received_at)),
         part(&set, 0, string_len(list, c.set_at)),
-        &mut output,
     )
 }
 
@@ -528,59 +312,17 @@ fn run_any(list: &[u8], at: usize, c: Case) -> bool {
     run_writing(list, c)
 }
 
-// One more of a count.
-fn bump(counts: &mut [u32], k: usize) {
-    if k < counts.len() {
-        let x = counts[k];
-        if x < 1_000_000_000 {
-            counts[k] = x + 1;
-        }
-    }
-}
-
-fn print_count(text: &[u8], n: u32) {
-    io::write_all(1, text);
-    io::print_decimal(1, n as u64);
-    io::write_all(1, b"\n");
-}
-
-fn report(counts: &mut [u32], is_same: bool, k: u32) {
-    if is_same {
-        bump(counts, SAME);
-    } else {
-        print_count(b"another answer to case ", k);
-    }
-}
-
-// All cases; the count of each number, and in the last place that of the recorded answers.
+// All cases.
 fn run_list(list: &[u8], counts: &mut [u32]) {
     let n = four(list, 0);
     let mut at = 4;
     let mut k = 0u32;
     while k < n {
         let c = case_at(list, at);
-        bump(counts, octet(list, c.said_at) as usize);
-        report(counts, run_any(list, at, c), k);
+        report(counts, octet(list, c.said_at), run_any(list, at, c), k);
         at = c.end;
         k += 1;
     }
-}
-
-fn print_counts(cases: u32, counts: &[u32]) {
-    print_count(b"done ", cell(counts, 0));
-    print_count(b"refusal 2 ", cell(counts, 2));
-    print_count(b"refusal 3 ", cell(counts, 3));
-    print_count(b"refusal 4 ", cell(counts, 4));
-    print_count(b"refusal 5 ", cell(counts, 5));
-    print_count(b"refusal 6 ", cell(counts, 6));
-    print_count(b"refusal 7 ", cell(counts, 7));
-    print_count(b"refusal 8 ", cell(counts, 8));
-    print_count(b"refusal 9 ", cell(counts, 9));
-    print_count(b"refusal 10 ", cell(counts, 10));
-    print_count(b"refusal 11 ", cell(counts, 11));
-    print_count(b"refusal 12 ", cell(counts, 12));
-    print_count(b"cases ", cases);
-    print_count(b"recorded answers ", cell(counts, SAME));
 }
 
 fn run_all(list: &[u8]) {

@@ -1,41 +1,47 @@
 // Runs the recorded list on standard input through our writing, setting and findings, and prints how many cases there are of each number, how many
 // answers are the recorded ones in number, value and all lent output, and each case that is not. README.md has the format.
+use answers::edited_said;
+use answers::encoded_said;
+use answers::found_said;
 use edits::Edited;
 use edits::set_place;
 use findings::Found;
-use findings::Log;
 use findings::optional_ie_order_findings;
-use octets::Cursor;
-use octets::Four;
-use octets::Pair;
 use octets::part;
-use octets::put_slice;
+use recorded::after;
+use recorded::answer_end;
+use recorded::counts::print_counts;
+use recorded::counts::report;
+use recorded::four;
+use recorded::front;
+use recorded::lent::LENT;
+use recorded::lent::LENT_NUMBER;
+use recorded::lent::get_numbers;
+use recorded::lent::get_string;
+use recorded::lent::numbers_are;
+use recorded::lent::output_is;
+use recorded::number;
+use recorded::numbers_end;
+use recorded::octet;
+use recorded::string_end;
+use recorded::string_len;
+use recorded::two;
+use recorded::used;
+use recorded::used_end;
 use writing::encode::Encoded;
-use writing::encode::Which;
 use writing::encode::encode_optional_ies;
 use writing::encode::encode_optional_ies_by;
-
-// What lent output holds before a case.
-const LENT: u8 = 0xa5;
-
-const LENT_NUMBER: u32 = 0xa5a5_a5a5;
 
 // Kinds of a case: a setting with a writing behind it, and findings; any other is a writing.
 const SETTING: u8 = 2;
 
 const FINDINGS: u8 = 6;
 
-// Where the recorded answers are counted: behind all numbers.
-const SAME: usize = 256;
-
-// No list is longer.
-const MOST: usize = 16_777_216;
-
 const LENT_TABLE: u8 = 255;
 
 // A case of the list: where its parts stand.
 struct Case {
-    table_at: usize,
+    at: usize,
     rows_at: usize,
     received_at: usize,
     set_at: usize,
@@ -45,11 +51,11 @@ struct Case {
     output_at: usize,
     said_at: usize,
     written_at: usize,
-    end: usize,
 }
 
 // A setting: where its parts stand, and the rows and set octets that it left.
 struct Setting {
+    at: usize,
     rows_at: usize,
     received_at: usize,
     set_at: usize,
@@ -60,115 +66,13 @@ struct Setting {
     order_at: usize,
 }
 
-fn octet(list: &[u8], at: usize) -> u8 {
-    if at < list.len() {
-        return list[at];
-    }
-    0
-}
-
-fn two(list: &[u8], at: usize) -> u16 {
-    let cursor = Cursor { at: at };
-    match cursor.get_u16(list) {
-        Pair::Is(x, _) => x,
-        Pair::Short => 0,
-    }
-}
-
-fn four(list: &[u8], at: usize) -> u32 {
-    let cursor = Cursor { at: at };
-    match cursor.get_u32(list) {
-        Four::Is(x, _) => x,
-        Four::Short => 0,
-    }
-}
-
-// Behind so many octets.
-fn after(at: usize, n: usize) -> usize {
-    if at > MOST {
-        return at;
-    }
-    if n > MOST {
-        return at;
-    }
-    at + n
-}
-
-fn counted(list: &[u8], at: usize) -> usize {
-    two(list, at) as usize
-}
-
-fn number(list: &[u8], at: usize) -> usize {
-    four(list, at) as usize
-}
-
-// Numbers: how many, and so many.
-fn numbers_end(list: &[u8], at: usize) -> usize {
-    after(after(at, 2), 4 * (two(list, at) as usize))
-}
-
-// A string: the octets that stand there, and the octet that follows so many times.
-fn repeat_at(list: &[u8], at: usize) -> usize {
-    after(after(at, 2), counted(list, at))
-}
-
-fn string_end(list: &[u8], at: usize) -> usize {
-    after(repeat_at(list, at), 3)
-}
-
-fn string_len(list: &[u8], at: usize) -> usize {
-    after(counted(list, at), counted(list, repeat_at(list, at)))
-}
-
-// A string, and how many of its octets are used.
-fn used_end(list: &[u8], at: usize) -> usize {
-    after(string_end(list, at), 4)
-}
-
-fn used(list: &[u8], at: usize) -> usize {
-    number(list, string_end(list, at))
-}
-
-// An answer: its number, how many values, and so many of eight octets.
-fn answer_end(list: &[u8], at: usize) -> usize {
-    after(after(at, 2), 8 * (octet(list, after(at, 1)) as usize))
-}
-
-fn writing_at(list: &[u8], at: usize) -> Case {
-    let table_at = after(at, 1);
-    let rows_at = numbers_end(list, after(table_at, 1));
-    let received_at = numbers_end(list, rows_at);
-    let set_at = string_end(list, received_at);
-    let kept_at = used_end(list, set_at);
+// The part from the logs on is alike in each kind; the output of findings is lent by a number of two octets, and else of four.
+fn logs_at(list: &[u8], at: usize, kept_at: usize, room: usize) -> Case {
     let order_at = used_end(list, kept_at);
     let output_at = used_end(list, order_at);
-    let said_at = after(output_at, 4);
-    let written_at = answer_end(list, said_at);
+    let said_at = after(output_at, room);
     Case {
-        table_at: table_at,
-        rows_at: rows_at,
-        received_at: received_at,
-        set_at: set_at,
-        set_used: used(list, set_at),
-        kept_at: kept_at,
-        order_at: order_at,
-        output_at: output_at,
-        said_at: said_at,
-        written_at: written_at,
-        end: string_end(list, written_at),
-    }
-}
-
-// Findings have no rows and no octets but those of the logs.
-fn findings_at(list: &[u8], at: usize) -> Case {
-    let table_at = after(at, 1);
-    let kept_at = numbers_end(list, after(table_at, 1));
-    let order_at = used_end(list, kept_at);
-    let output_at = used_end(list, order_at);
-    let said_at = after(output_at, 2);
-    let written_at = answer_end(list, said_at);
-    Case {
-        table_at: table_at,
+        at: at,
         rows_at: at,
         received_at: at,
         set_at: at,
@@ -177,9 +81,25 @@ fn findings_at(list: &[u8], at: usize) -> Case {
         order_at: order_at,
         output_at: output_at,
         said_at: said_at,
-        written_at: written_at,
-        end: numbers_end(list, written_at),
+        written_at: answer_end(list, said_at),
     }
+}
+
+fn writing_at(list: &[u8], at: usize) -> Case {
+    let rows_at = numbers_end(list, after(at, 2));
+    let received_at = numbers_end(list, rows_at);
+    let set_at = string_end(list, received_at);
+    let mut c = logs_at(list, at, used_end(list, set_at), 4);
+    c.rows_at = rows_at;
+    c.received_at = received_at;
+    c.set_at = set_at;
+    c.set_used = used(list, set_at);
+    c
+}
+
+// Findings have no rows and no octets but those of the logs.
+fn findings_at(list: &[u8], at: usize) -> Case {
+    logs_at(list, at, numbers_end(list, after(at, 2)), 2)
 }
 
 fn setting_at(list: &[u8], at: usize) -> Setting {
@@ -190,8 +110,8 @@ fn setting_at(list: &[u8], at: usize) -> Setting {
     let said_at = string_end(list, after(place_at, 4));
     let rows_after_at = answer_end(list, said_at);
     let set_after_at = numbers_end(list, rows_after_at);
-    let kept_at = string_end(list, set_after_at);
     Setting {
+        at: at,
         rows_at: rows_at,
         received_at: received_at,
         set_at: set_at,
@@ -199,7 +119,7 @@ fn setting_at(list: &[u8], at: usize) -> Setting {
         said_at: said_at,
         rows_after_at: rows_after_at,
         set_after_at: set_after_at,
-        order_at: used_end(list, kept_at),
+        order_at: used_end(list, string_end(list, set_after_at)),
     }
 }
 
@@ -212,31 +132,18 @@ fn used_after(list: &[u8], e: Setting) -> usize {
 }
 
 // The writing behind a setting.
-fn behind_at(list: &[u8], at: usize) -> Case {
-    let e = setting_at(list, at);
-    let kept_at = string_end(list, e.set_after_at);
-    let order_at = used_end(list, kept_at);
-    let output_at = used_end(list, order_at);
-    let said_at = after(output_at, 4);
-    let written_at = answer_end(list, said_at);
-    Case {
-        table_at: after(at, 1),
-        rows_at: e.rows_after_at,
-        received_at: e.received_at,
-        set_at: e.set_after_at,
-        set_used: used_after(list, e),
-        kept_at: kept_at,
-        order_at: order_at,
-        output_at: output_at,
-        said_at: said_at,
-        written_at: written_at,
-        end: string_end(list, written_at),
-    }
+fn behind_at(list: &[u8], at: usize, e: Setting) -> Case {
+    let mut c = logs_at(list, at, string_end(list, e.set_after_at), 4);
+    c.rows_at = e.rows_after_at;
+    c.received_at = e.received_at;
+    c.set_at = e.set_after_at;
+    c.set_used = used_after(list, e);
+    c
 }
 
 fn case_at(list: &[u8], at: usize) -> Case {
     if octet(list, at) == SETTING {
-        return behind_at(list, at);
+        return behind_at(list, at, setting_at(list, at));
     }
     if octet(list, at) == FINDINGS {
         return findings_at(list, at);
@@ -244,118 +151,27 @@ fn case_at(list: &[u8], at: usize) -> Case {
     writing_at(list, at)
 }
 
-fn fill(out: &mut [u8], x: u8) {
-    let mut i = 0;
-    while i < out.len() {
-        out[i] = x;
-        i += 1;
+fn case_end(list: &[u8], c: Case) -> usize {
+    if octet(list, c.at) == FINDINGS {
+        return numbers_end(list, c.written_at);
     }
+    string_end(list, c.written_at)
 }
 
-fn fill_numbers(out: &mut [u32], x: u32) {
-    let mut i = 0;
-    while i < out.len() {
-        out[i] = x;
-        i += 1;
-    }
+// Whether a value is the recorded one there, where the answer has it; all recorded ones have at most 32 bits.
+fn value_is(list: &[u8], at: usize, is_there: bool, x: u64) -> bool {
+    !is_there || (four(list, at) == 0 && four(list, after(at, 4)) as u64 == x)
 }
 
-// Numbers into the front of a buffer; 0 behind the list.
-fn get_numbers(list: &[u8], at: usize, out: &mut [u32]) {
-    let mut p = after(at, 2);
-    let mut i = 0;
-    while i < out.len() {
-        out[i] = four(list, p);
-        p = after(p, 4);
-        i += 1;
-    }
+// Whether a number, how many values it has, at most one, and the value are the recorded ones.
+fn said_is(list: &[u8], at: usize, number: u32, values: &[u64; 5]) -> bool {
+    octet(list, at) as u32 == number
+        && octet(list, after(at, 1)) as u64 == values[0]
+        && values[0] < 2
+        && value_is(list, after(at, 2), values[0] > 0, values[1])
 }
 
-// A string into the front of a buffer.
-fn get_string(list: &[u8], at: usize, out: &mut [u8]) {
-    let repeat = repeat_at(list, at);
-    fill(out, octet(list, after(repeat, 2)));
-    put_slice(out, part(list, after(at, 2), counted(list, at)));
-}
-
-fn same(a: &[u8], b: &[u8]) -> bool {
-    if a.len() != b.len() {
-        return false;
-    }
-    let mut i = 0;
-    while i < a.len() {
-        if octet(a, i) != octet(b, i) {
-            return false;
-        }
-        i += 1;
-    }
-    true
-}
-
-fn all(s: &[u8], x: u8) -> bool {
-    let mut i = 0;
-    while i < s.len() {
-        if s[i] != x {
-            return false;
-        }
-        i += 1;
-    }
-    true
-}
-
-// Whether output holds a string, and what it held before behind it.
-fn output_is(list: &[u8], at: usize, output: &[u8]) -> bool {
-    let repeat = repeat_at(list, at);
-    let front = counted(list, at);
-    let used = string_len(list, at);
-    if output.len() < used {
-        return false;
-    }
-    if !same(part(list, after(at, 2), front), part(output, 0, front)) {
-        return false;
-    }
-    if !all(
-        part(output, front, counted(list, repeat)),
-        octet(list, after(repeat, 2)),
-    ) {
-        return false;
-    }
-    all(part(output, used, output.len()), LENT)
-}
-
-// Whether a number with no value is the recorded one.
-fn none_is(list: &[u8], at: usize, x: u8) -> bool {
-    octet(list, at) == x && octet(list, after(at, 1)) == 0
-}
-
-// The same with one value; all recorded ones have at most 32 bits.
-fn one_is(list: &[u8], at: usize, x: u8, value: u64) -> bool {
-    octet(list, at) == x
-        && octet(list, after(at, 1)) == 1
-        && four(list, after(at, 2)) == 0
-        && four(list, after(at, 6)) as u64 == value
-}
-
-fn which_is(list: &[u8], at: usize, which: Which) -> bool {
-    match which {
-        Which::Order => one_is(list, at, 11, 1),
-        Which::Kept => one_is(list, at, 11, 2),
-        Which::Rows => one_is(list, at, 11, 3),
-    }
-}
-
-fn said_is(list: &[u8], at: usize, said: Encoded) -> bool {
-    match said {
-        Encoded::Done(n) => one_is(list, at, 0, n as u64),
-        Encoded::NoRows => one_is(list, at, 2, 1),
-        Encoded::TooLong => none_is(list, at, 3),
-        Encoded::BadTable(row) => one_is(list, at, 4, row as u64),
-        Encoded::NoTable => none_is(list, at, 5),
-        Encoded::Unfit(place) => one_is(list, at, 10, place as u64),
-        Encoded::Malformed(which) => which_is(list, at, which),
-        Encoded::NoOutput(need) => one_is(list, at, 12, need),
-    }
-}
+// ---- writings
 
 // By the table of the case, of exactly what it lends.
 fn write<'a>(
@@ -369,8 +185,7 @@ fn write<'a>(
     order: &[u8],
     output: &mut [u8],
 ) -> Encoded {
-    let number = octet(list, c.table_at);
-    let set_used = c.set_used;
+    let number = octet(list, after(c.at, 1));
     let kept_used = used(list, c.kept_at);
     let order_used = used(list, c.order_at);
     if number == LENT_TABLE {
@@ -379,7 +194,7 @@ fn write<'a>(
             rows,
             received,
             set,
-            set_used,
+            c.set_used,
             kept,
             kept_used,
             order,
@@ -392,7 +207,7 @@ fn write<'a>(
         rows,
         received,
         set,
-        set_used,
+        c.set_used,
         kept,
         kept_used,
         order,
@@ -401,26 +216,14 @@ fn write<'a>(
     )
 }
 
-fn judge<'a>(
-    list: &[u8],
-    c: Case,
-    table: &[u32],
-    rows: &[u32],
-    received: &'a [u8],
-    set: &'a [u8],
-    kept: &[u8],
-    order: &[u8],
-    output: &mut [u8],
-) -> bool {
-    fill(output, LENT);
-    let said = write(list, c, table, rows, received, set, kept, order, output);
-    let is_said = said_is(list, c.said_at, said);
-    let is_output = output_is(list, c.written_at, output);
-    is_said && is_output
+// Whether the number, its value and the output are the recorded ones.
+fn wrote_is(list: &[u8], c: Case, said: Encoded, n: usize, output: &[u8; 66000]) -> bool {
+    let mut values = [0u64; 5];
+    let number = encoded_said(said, &mut values);
+    said_is(list, c.said_at, number, &values) && output_is(list, c.written_at, part(output, 0, n))
 }
 
-// A case in the fronts of what there is for all cases; one that asks for more is not the recorded one.
-fn run_fronts<'a>(
+fn run_output<'a>(
     list: &[u8],
     c: Case,
     table: &[u32],
@@ -429,35 +232,73 @@ fn run_fronts<'a>(
     set: &'a [u8],
     kept: &[u8],
     order: &[u8],
-    output: &mut [u8],
 ) -> bool {
-    let cells = counted(list, after(c.table_at, 1));
-    let places = counted(list, c.rows_at);
     let n = number(list, c.output_at);
-    if cells > table.len() {
+    if n > 66000 {
         return false;
     }
-    if places > rows.len() {
-        return false;
-    }
-    if n > output.len() {
-        return false;
-    }
-    judge(
+    let mut output = [LENT; 66000];
+    let said = write(
         list,
         c,
-        &table[..cells],
-        &rows[..places],
+        table,
+        rows,
         received,
         set,
         kept,
         order,
         &mut output[..n],
-    )
+    );
+    wrote_is(list, c, said, n, &output)
 }
 
-// A case with its octets; its numbers are taken here.
-fn run_numbers<'a>(
+fn run_rows<'a>(
+    list: &[u8],
+    c: Case,
+    table: &[u32],
+    received: &'a [u8],
+    set: &'a [u8],
+    kept: &[u8],
+    order: &[u8],
+) -> bool {
+    let n = two(list, c.rows_at);
+    if n > 192 {
+        return false;
+    }
+    let mut rows = [0u32; 192];
+    get_numbers(list, c.rows_at, &mut rows);
+    run_output(list, c, table, front(&rows, n), received, set, kept, order)
+}
+
+// ---- findings
+
+// Whether the number, its value and the findings are the recorded ones.
+fn found_is(list: &[u8], c: Case, found: Found, n: usize, findings: &[u32; 256]) -> bool {
+    let mut values = [0u64; 5];
+    let number = found_said(found, &mut values);
+    said_is(list, c.said_at, number, &values) && numbers_are(list, c.written_at, front(findings, n))
+}
+
+fn run_findings(list: &[u8], c: Case, table: &[u32], kept: &[u8], order: &[u8]) -> bool {
+    let n = two(list, c.output_at);
+    if n > 256 {
+        return false;
+    }
+    let mut findings = [LENT_NUMBER; 256];
+    let found = optional_ie_order_findings(
+        table,
+        kept,
+        used(list, c.kept_at),
+        order,
+        used(list, c.order_at),
+        &mut findings[..n],
+    );
+    found_is(list, c, found, n, &findings)
+}
+
+// ---- both, with their octets and their table; a case that asks for more than there is room for is not the recorded one
+
+fn run_table<'a>(
     list: &[u8],
     c: Case,
     received: &'a [u8],
@@ -465,179 +306,67 @@ fn run_numbers<'a>(
     kept: &[u8],
     order: &[u8],
 ) -> bool {
+    let n = two(list, after(c.at, 2));
+    if n > 64 {
+        return false;
+    }
     let mut table = [0u32; 64];
-    let mut rows = [0u32; 192];
-    let mut output = [0u8; 66000];
-    get_numbers(list, after(c.table_at, 1), &mut table);
-    get_numbers(list, c.rows_at, &mut rows);
-    run_fronts(
-        list,
-        c,
-        &table,
-        &rows,
-        received,
-        set,
-        kept,
-        order,
-        &mut output,
-    )
+    get_numbers(list, after(c.at, 2), &mut table);
+    if octet(list, c.at) == FINDINGS {
+        return run_findings(list, c, front(&table, n), kept, order);
+    }
+    run_rows(list, c, front(&table, n), received, set, kept, order)
 }
 
-// Whether a string fits so many octets.
-fn fits(list: &[u8], at: usize, n: usize) -> bool {
-    string_len(list, at) <= n
+fn run_order<'a>(list: &[u8], c: Case, received: &'a [u8], set: &'a [u8], kept: &[u8]) -> bool {
+    let n = string_len(list, c.order_at);
+    if n > 66000 {
+        return false;
+    }
+    let mut order = [0u8; 66000];
+    get_string(list, c.order_at, &mut order);
+    run_table(list, c, received, set, kept, part(&order, 0, n))
 }
 
-fn all_fit(list: &[u8], c: Case) -> bool {
-    fits(list, c.received_at, 65536)
-        && fits(list, c.set_at, 66000)
-        && fits(list, c.kept_at, 256)
-        && fits(list, c.order_at, 66000)
+fn run_kept<'a>(list: &[u8], c: Case, received: &'a [u8], set: &'a [u8]) -> bool {
+    let n = string_len(list, c.kept_at);
+    if n > 256 {
+        return false;
+    }
+    let mut kept = [0u8; 256];
+    get_string(list, c.kept_at, &mut kept);
+    run_order(list, c, received, set, part(&kept, 0, n))
 }
 
-// A case in what there is room for; one that asks for more is not the recorded one.
-fn run_case(list: &[u8], c: Case) -> bool {
-    let mut received = [0u8; 65536];
+fn run_set(list: &[u8], c: Case, received: &[u8]) -> bool {
+    let n = string_len(list, c.set_at);
+    if n > 66000 {
+        return false;
+    }
     let mut set = [0u8; 66000];
-    let mut kept = [0u8; 256];
-    let mut order = [0u8; 66000];
-    if !all_fit(list, c) {
-        return false;
-    }
-    get_string(list, c.received_at, &mut received);
     get_string(list, c.set_at, &mut set);
-    get_string(list, c.kept_at, &mut kept);
-    get_string(list, c.order_at, &mut order);
-    run_numbers(
-        list,
-        c,
-        part(&received, 0, string_len(list, c.received_at)),
-        part(&set, 0, string_len(list, c.set_at)),
-        part(&kept, 0, string_len(list, c.kept_at)),
-        part(&order, 0, string_len(list, c.order_at)),
-    )
+    run_kept(list, c, received, part(&set, 0, n))
 }
 
-// ---- findings
-
-fn log_is(list: &[u8], at: usize, log: Log) -> bool {
-    match log {
-        Log::Order => one_is(list, at, 11, 1),
-        Log::Kept => one_is(list, at, 11, 2),
-    }
-}
-
-fn found_is(list: &[u8], at: usize, found: Found) -> bool {
-    match found {
-        Found::Findings(n) => one_is(list, at, 0, n as u64),
-        Found::BadTable(row) => one_is(list, at, 4, row as u64),
-        Found::TooLong => none_is(list, at, 3),
-        Found::Malformed(log) => log_is(list, at, log),
-        Found::NoRoom => one_is(list, at, 2, 4),
-    }
-}
-
-fn cell(s: &[u32], at: usize) -> u32 {
-    if at < s.len() {
-        return s[at];
-    }
-    0
-}
-
-// The recorded number there, or what was lent behind them.
-fn recorded_or_lent(list: &[u8], at: usize, is_recorded: bool) -> u32 {
-    if is_recorded {
-        return four(list, at);
-    }
-    LENT_NUMBER
-}
-
-// Whether lent numbers are the recorded ones, and what was lent behind them.
-fn numbers_are(list: &[u8], at: usize, s: &[u32]) -> bool {
-    let n = counted(list, at);
-    let mut p = after(at, 2);
-    let mut i = 0;
-    while i < s.len() {
-        if cell(s, i) != recorded_or_lent(list, p, i < n) {
-            return false;
-        }
-        p = after(p, 4);
-        i += 1;
-    }
-    n <= s.len()
-}
-
-fn judge_findings(
-    list: &[u8],
-    c: Case,
-    table: &[u32],
-    kept: &[u8],
-    order: &[u8],
-    findings: &mut [u32],
-) -> bool {
-    let kept_used = used(list, c.kept_at);
-    let order_used = used(list, c.order_at);
-    fill_numbers(findings, LENT_NUMBER);
-    let found = optional_ie_order_findings(table, kept, kept_used, order, order_used, findings);
-    let is_found = found_is(list, c.said_at, found);
-    let is_written = numbers_are(list, c.written_at, findings);
-    is_found && is_written
-}
-
-fn find_fronts(
-    list: &[u8],
-    c: Case,
-    table: &[u32],
-    kept: &[u8],
-    order: &[u8],
-    findings: &mut [u32],
-) -> bool {
-    let cells = counted(list, after(c.table_at, 1));
-    let n = counted(list, c.output_at);
-    if cells > table.len() {
+fn run_writing(list: &[u8], c: Case) -> bool {
+    let n = string_len(list, c.received_at);
+    if n > 65536 {
         return false;
     }
-    if n > findings.len() {
-        return false;
-    }
-    judge_findings(list, c, &table[..cells], kept, order, &mut findings[..n])
-}
-
-fn run_findings(list: &[u8], c: Case) -> bool {
-    let mut table = [0u32; 64];
-    let mut kept = [0u8; 256];
-    let mut order = [0u8; 66000];
-    let mut findings = [0u32; 256];
-    if !(fits(list, c.kept_at, 256) && fits(list, c.order_at, 66000)) {
-        return false;
-    }
-    get_numbers(list, after(c.table_at, 1), &mut table);
-    get_string(list, c.kept_at, &mut kept);
-    get_string(list, c.order_at, &mut order);
-    find_fronts(
-        list,
-        c,
-        &table,
-        part(&kept, 0, string_len(list, c.kept_at)),
-        part(&order, 0, string_len(list, c.order_at)),
-        &mut findings,
-    )
+    let mut received = [0u8; 65536];
+    get_string(list, c.received_at, &mut received);
+    run_set(list, c, part(&received, 0, n))
 }
 
 // ---- settings
 
-fn edited_is(list: &[u8], at: usize, edited: Edited) -> bool {
-    match edited {
-        Edited::Set(n) => one_is(list, at, 0, n as u64),
-        Edited::Cleared => none_is(list, at, 0),
-        Edited::BadTable(row) => one_is(list, at, 4, row as u64),
-        Edited::TooLong => none_is(list, at, 3),
-        Edited::NoRoom => one_is(list, at, 2, 1),
-        Edited::MalformedLog => one_is(list, at, 11, 1),
-        Edited::Malformed => one_is(list, at, 11, 3),
-        Edited::Unfit(place) => one_is(list, at, 10, place as u64),
-        Edited::NoSet(need) => one_is(list, at, 12, need as u64),
-    }
+// Whether the number, its value, the rows and the set octets are the recorded ones.
+fn edited_is(list: &[u8], e: Setting, edited: Edited, rows: &[u32], set: &[u8]) -> bool {
+    let mut values = [0u64; 5];
+    let number = edited_said(edited, &mut values);
+    said_is(list, e.said_at, number, &values)
+        && numbers_are(list, e.rows_after_at, rows)
+        && output_is(list, e.set_after_at, set)
 }
 
 fn judge_setting(
@@ -650,52 +379,44 @@ fn judge_setting(
     order: &[u8],
     value: &[u8],
 ) -> bool {
-    let set_used = used(list, e.set_at);
-    let order_used = used(list, e.order_at);
-    let place = number(list, e.place_at);
     let edited = set_place(
         table,
         rows,
         received,
         set,
-        set_used,
+        used(list, e.set_at),
         order,
-        order_used,
-        place,
+        used(list, e.order_at),
+        number(list, e.place_at),
         value,
     );
-    let is_edited = edited_is(list, e.said_at, edited);
-    let are_rows = numbers_are(list, e.rows_after_at, rows);
-    let is_set = output_is(list, e.set_after_at, set);
-    is_edited && are_rows && is_set
+    edited_is(list, e, edited, rows, set)
 }
 
-fn set_fronts(
+fn set_rows(
     list: &[u8],
     e: Setting,
-    cells: usize,
     table: &[u32],
-    rows: &mut [u32],
     received: &[u8],
-    set: &mut [u8],
     order: &[u8],
     value: &[u8],
 ) -> bool {
-    let places = counted(list, e.rows_at);
+    let places = two(list, e.rows_at);
     let n = string_len(list, e.set_at);
-    if cells > table.len() {
+    if places > 192 {
         return false;
     }
-    if places > rows.len() {
+    if n > 66000 {
         return false;
     }
-    if n > set.len() {
-        return false;
-    }
+    let mut rows = [0u32; 192];
+    let mut set = [0u8; 66000];
+    get_numbers(list, e.rows_at, &mut rows);
+    get_string(list, e.set_at, &mut set);
     judge_setting(
         list,
         e,
-        &table[..cells],
+        table,
         &mut rows[..places],
         received,
         &mut set[..n],
@@ -704,100 +425,71 @@ fn set_fronts(
     )
 }
 
-fn run_setting(list: &[u8], at: usize, e: Setting) -> bool {
+fn set_table(list: &[u8], e: Setting, received: &[u8], order: &[u8], value: &[u8]) -> bool {
+    let n = two(list, after(e.at, 2));
+    if n > 64 {
+        return false;
+    }
     let mut table = [0u32; 64];
-    let mut rows = [0u32; 192];
-    let mut received = [0u8; 256];
-    let mut set = [0u8; 66000];
-    let mut value = [0u8; 512];
+    get_numbers(list, after(e.at, 2), &mut table);
+    set_rows(list, e, front(&table, n), received, order, value)
+}
+
+fn set_order(list: &[u8], e: Setting, received: &[u8], value: &[u8]) -> bool {
+    let n = string_len(list, e.order_at);
+    if n > 66000 {
+        return false;
+    }
     let mut order = [0u8; 66000];
-    let value_at = after(e.place_at, 4);
-    if !(fits(list, e.received_at, 256) && fits(list, value_at, 512)) {
-        return false;
-    }
-    if !fits(list, e.order_at, 66000) {
-        return false;
-    }
-    get_numbers(list, after(at, 2), &mut table);
-    get_numbers(list, e.rows_at, &mut rows);
-    get_string(list, e.received_at, &mut received);
-    get_string(list, e.set_at, &mut set);
-    get_string(list, value_at, &mut value);
     get_string(list, e.order_at, &mut order);
-    set_fronts(
-        list,
-        e,
-        counted(list, after(at, 2)),
-        &table,
-        &mut rows,
-        part(&received, 0, string_len(list, e.received_at)),
-        &mut set,
-        part(&order, 0, string_len(list, e.order_at)),
-        part(&value, 0, string_len(list, value_at)),
-    )
+    set_table(list, e, received, part(&order, 0, n), value)
+}
+
+fn set_value(list: &[u8], e: Setting, received: &[u8]) -> bool {
+    let at = after(e.place_at, 4);
+    let n = string_len(list, at);
+    if n > 512 {
+        return false;
+    }
+    let mut value = [0u8; 512];
+    get_string(list, at, &mut value);
+    set_order(list, e, received, part(&value, 0, n))
+}
+
+fn run_setting(list: &[u8], e: Setting) -> bool {
+    let n = string_len(list, e.received_at);
+    if n > 256 {
+        return false;
+    }
+    let mut received = [0u8; 256];
+    get_string(list, e.received_at, &mut received);
+    set_value(list, e, part(&received, 0, n))
 }
 
 // ---- all cases
 
-fn run_any(list: &[u8], at: usize, c: Case) -> bool {
-    if octet(list, at) == SETTING {
-        return run_setting(list, at, setting_at(list, at)) && run_case(list, c);
+fn run_case(list: &[u8], c: Case) -> bool {
+    let kind = octet(list, c.at);
+    if kind == FINDINGS {
+        return run_kept(list, c, part(list, 0, 0), part(list, 0, 0));
     }
-    if octet(list, at) == FINDINGS {
-        return run_findings(list, c);
+    if kind == SETTING {
+        return run_setting(list, setting_at(list, c.at)) && run_writing(list, c);
     }
-    run_case(list, c)
+    run_writing(list, c)
 }
 
-// One more of a count.
-fn bump(counts: &mut [u32], k: usize) {
-    if k < counts.len() {
-        let x = counts[k];
-        if x < 1_000_000_000 {
-            counts[k] = x + 1;
-        }
-    }
-}
-
-fn print_count(text: &[u8], n: u32) {
-    io::write_all(1, text);
-    io::print_decimal(1, n as u64);
-    io::write_all(1, b"\n");
-}
-
-fn report(counts: &mut [u32], is_same: bool, k: u32) {
-    if is_same {
-        bump(counts, SAME);
-    } else {
-        print_count(b"another answer to case ", k);
-    }
-}
-
-// All cases; the count of each number, and in the last place that of the recorded answers.
+// All cases.
 fn run_list(list: &[u8], counts: &mut [u32]) {
     let n = four(list, 0);
     let mut at = 4;
     let mut k = 0u32;
     while k < n {
         let c = case_at(list, at);
-        bump(counts, octet(list, c.said_at) as usize);
-        report(counts, run_any(list, at, c), k);
-        at = c.end;
+        report(counts, octet(list, c.said_at), run_case(list, c), k);
+        at = case_end(list, c);
         k += 1;
     }
-}
-
-fn print_counts(cases: u32, counts: &[u32]) {
-    print_count(b"done ", cell(counts, 0));
-    print_count(b"refusal 2 ", cell(counts, 2));
-    print_count(b"refusal 3 ", cell(counts, 3));
-    print_count(b"refusal 4 ", cell(counts, 4));
-    print_count(b"refusal 5 ", cell(counts, 5));
-    print_count(b"refusal 10 ", cell(counts, 10));
-    print_count(b"refusal 11 ", cell(counts, 11));
-    print_count(b"refusal 12 ", cell(counts, 12));
-    print_count(b"cases ", cases);
-    print_count(b"recorded answers ", cell(counts, SAME));
 }
 
 fn run_all(list: &[u8]) {

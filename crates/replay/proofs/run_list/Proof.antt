@@ -1,5 +1,5 @@
 -- `run_list` runs a case a turn: it ends.
--- The measure is the cases that are left; the lent buffers keep their lengths.
+-- The measure is the cases that are left; the lent counts keep their length.
 use Prim.Native.Nat.{_-_}
 use native.Mathlib.Omega.{arith}
 use mathlib.Core.Path.{_≡_, refl}
@@ -9,18 +9,16 @@ use Rattle.replay.proofs.run_list.Statement.{statement}
 use Rattle.replay.proofs.run_list.Tie as tie
 
 abbrev Inv-loop : tie.InvT-loop
-Inv-loop list octets₀ table₀ rows₀ kept₀ order₀ counts₀ n at₀ k₀ octets table rows kept order counts at k =
-    (length octets ≡ length octets₀) × (length table ≡ length table₀) × (length rows ≡ length rows₀) × (length kept ≡ length kept₀) × (length order ≡ length order₀) × (length counts ≡ length counts₀)
+Inv-loop list counts₀ n at₀ k₀ counts at k = length counts ≡ length counts₀
 
 abbrev μ-loop : tie.MeasureT-loop
-μ-loop list octets₀ table₀ rows₀ kept₀ order₀ counts₀ n at₀ k₀ octets table rows kept order counts at k =
-    n - k
+μ-loop list counts₀ n at₀ k₀ counts at k = n - k
 
 four-requires : tie.Need-four-requires Inv-loop μ-loop
 four-requires c κs = search needs
 
 loop-holds : tie.Need-loop-holds Inv-loop μ-loop
-loop-holds c = (refl, refl, refl, refl, refl, refl)
+loop-holds c = refl
 
 case-at-requires : tie.Need-case-at-requires Inv-loop μ-loop
 case-at-requires c κs = search needs
@@ -28,17 +26,14 @@ case-at-requires c κs = search needs
 octet-requires : tie.Need-octet-requires Inv-loop μ-loop
 octet-requires c κs = search needs
 
-cast-bump : tie.Need-cast-bump Inv-loop μ-loop
-cast-bump c = search needs
-
-bump-requires : tie.Need-bump-requires Inv-loop μ-loop
-bump-requires c κs = search needs
-
 run-case-requires : tie.Need-run-case-requires Inv-loop μ-loop
 run-case-requires c κs = search needs
 
 report-requires : tie.Need-report-requires Inv-loop μ-loop
 report-requires c κs = search needs
+
+string-end-requires : tie.Need-string-end-requires Inv-loop μ-loop
+string-end-requires c κs = search needs
 
 add-k : tie.Need-add-k Inv-loop μ-loop
 add-k c = search needs
@@ -47,25 +42,10 @@ loop-less : tie.Need-loop-less Inv-loop μ-loop
 loop-less c = omega arith
 
 loop-again : tie.Need-loop-again Inv-loop μ-loop
-loop-again c = (search needs, search needs, search needs, search needs, search needs, search needs)
+loop-again c = search needs
 
 same-length : tie.Need-same-length Inv-loop μ-loop
 same-length c = search needs
-
-same-length-2 : tie.Need-same-length-2 Inv-loop μ-loop
-same-length-2 c = search needs
-
-same-length-3 : tie.Need-same-length-3 Inv-loop μ-loop
-same-length-3 c = search needs
-
-same-length-4 : tie.Need-same-length-4 Inv-loop μ-loop
-same-length-4 c = search needs
-
-same-length-5 : tie.Need-same-length-5 Inv-loop μ-loop
-same-length-5 c = search needs
-
-same-length-6 : tie.Need-same-length-6 Inv-loop μ-loop
-same-length-6 c = search needs
 
 returns : tie.Need-returns Inv-loop μ-loop
 returns c = search needs
@@ -80,17 +60,11 @@ run-list-spec =
     loop-holds
     case-at-requires
     octet-requires
-    cast-bump
-    bump-requires
     run-case-requires
     report-requires
+    string-end-requires
     add-k
     loop-less
     loop-again
     same-length
-    same-length-2
-    same-length-3
-    same-length-4
-    same-length-5
-    same-length-6
     returns)

@@ -12,8 +12,8 @@ Inv-loop list at notes n p₀ i₀ p i = Unit {0}
 abbrev μ-loop : tie.MeasureT-loop
 μ-loop list at notes n p₀ i₀ p i = 32 - i
 
-counted-requires : tie.Need-counted-requires Inv-loop μ-loop
-counted-requires c κs = search needs
+two-requires : tie.Need-two-requires Inv-loop μ-loop
+two-requires c κs = search needs
 
 after-requires : tie.Need-after-requires Inv-loop μ-loop
 after-requires c κs = search needs
@@ -51,7 +51,7 @@ notes-are-spec =
     (tie.spec
     Inv-loop
     μ-loop
-    counted-requires
+    two-requires
     after-requires
     loop-holds
     note-at-requires

@@ -26,12 +26,6 @@ case-at-requires c κs = search needs
 octet-requires : tie.Need-octet-requires Inv-loop μ-loop
 octet-requires c κs = search needs
 
-cast-bump : tie.Need-cast-bump Inv-loop μ-loop
-cast-bump c = search needs
-
-bump-requires : tie.Need-bump-requires Inv-loop μ-loop
-bump-requires c κs = search needs
-
 run-any-requires : tie.Need-run-any-requires Inv-loop μ-loop
 run-any-requires c κs = search needs
 
@@ -63,8 +57,6 @@ run-list-spec =
     loop-holds
     case-at-requires
     octet-requires
-    cast-bump
-    bump-requires
     run-any-requires
     report-requires
     add-k

@@ -26,17 +26,14 @@ case-at-requires c κs = search needs
 octet-requires : tie.Need-octet-requires Inv-loop μ-loop
 octet-requires c κs = search needs
 
-cast-bump : tie.Need-cast-bump Inv-loop μ-loop
-cast-bump c = search needs
-
-bump-requires : tie.Need-bump-requires Inv-loop μ-loop
-bump-requires c κs = search needs
-
-run-any-requires : tie.Need-run-any-requires Inv-loop μ-loop
-run-any-requires c κs = search needs
+run-case-requires : tie.Need-run-case-requires Inv-loop μ-loop
+run-case-requires c κs = search needs
 
 report-requires : tie.Need-report-requires Inv-loop μ-loop
 report-requires c κs = search needs
+
+case-end-requires : tie.Need-case-end-requires Inv-loop μ-loop
+case-end-requires c κs = search needs
 
 add-k : tie.Need-add-k Inv-loop μ-loop
 add-k c = search needs
@@ -63,10 +60,9 @@ run-list-spec =
     loop-holds
     case-at-requires
     octet-requires
-    cast-bump
-    bump-requires
-    run-any-requires
+    run-case-requires
     report-requires
+    case-end-requires
     add-k
     loop-less
     loop-again

@@ -1,0 +1,3 @@
+-- What stands in a recorded list, and what lent memory holds after a case.
+pub mod Format
+pub mod Lent
