@@ -3,7 +3,7 @@
 use Prim.Native.Nat.{ℕ, suc, _+_, _*_, _-_, _≤_, _<_}
 use native.Mathlib.Omega.{arith}
 use mathlib.Core.Path.{_≡_, refl, ap, sym, subst, _∙_}
-use mathlib.Core.List.{List, [], _∷_, _++_, append-assoc}
+use mathlib.Core.List.{List, [], _∷_, append-assoc}
 use mathlib.Core.Bool.{Bool, true, false}
 use lib.ListN.{length, getD, take, drop, set, length-append, drop-of-length-le}
 use lib.Seq.{drop-cons, drop-drop, sets-eq}
@@ -13,7 +13,7 @@ use Rattle.definitions.specs.Basic.{pick, among, over, overAt}
 use Rattle.definitions.proofs.Lists.{over-none, over-next}
 use Rattle.arguments.specs.declared.hex.Ends.{Ends}
 use Rattle.arguments.specs.declared.hex.Step.{Step}
-use Rattle.arguments.specs.Hex.{isBlank, digitOf, isDigit, Hex, ended, behind, pairOf, hexFrom, hexOf}
+use Rattle.arguments.specs.Hex.{isBlank, digitOf, isHexDigit, Hex, ended, behind, pairOf, hexFrom, hexOf}
 use Rattle.arguments.specs.Steps.{firstOf, secondOf, stepOf, steppedFrom}
 
 -- ---- an octet of text
@@ -101,9 +101,9 @@ end-good i half l = rw (le-ltb half 16 l)
 -- the octet of text behind a digit
 with-second : (room at d y : ℕ) (s : List ℕ) (rest : Hex) → eqb room 0 ≡ false → ltb d 16 ≡ true → steppedFrom (room - 1) (suc (suc at)) 16 s ≡ rest
     → steppedFrom room (suc at) d (y ∷ s)
-    ≡ pick (isBlank y) (ended (Ends.Odd at)) (pick (isDigit y) (behind (16 * d + digitOf y) rest) (ended (Ends.NoDigit (suc at))))
+    ≡ pick (isBlank y) (ended (Ends.Odd at)) (pick (isHexDigit y) (behind (16 * d + digitOf y) rest) (ended (Ends.NoDigit (suc at))))
 unfolding steppedFrom stepOf secondOf
-with-second room at d y s rest r l e = let z : suc at - 1 ≡ at = omega arith in rw (r, l) (by (isBlank y) (isDigit y) z)
+with-second room at d y s rest r l e = let z : suc at - 1 ≡ at = omega arith in rw (r, l) (by (isBlank y) (isHexDigit y) z)
   where
     by : (b c : Bool) → suc at - 1 ≡ at
         → elim (pick b (Step.Wrong (Ends.Odd (suc at - 1))) (pick c (Step.Octet (16 * d + digitOf y)) (Step.Wrong (Ends.NoDigit (suc at))))) [
@@ -118,11 +118,11 @@ with-second room at d y s rest r l e = let z : suc at - 1 ≡ at = omega arith i
 
 -- two octets of text, by whether the first is a digit
 module _ (at x y : ℕ) (rest : Hex) where
-  paired-with : isDigit x ≡ true → pick (isBlank y) (ended (Ends.Odd at)) (pick (isDigit y) (behind (16 * digitOf x + digitOf y) rest) (ended (Ends.NoDigit (suc at)))) ≡ pairOf at x y rest
+  paired-with : isHexDigit x ≡ true → pick (isBlank y) (ended (Ends.Odd at)) (pick (isHexDigit y) (behind (16 * digitOf x + digitOf y) rest) (ended (Ends.NoDigit (suc at)))) ≡ pairOf at x y rest
   unfolding pairOf
   paired-with e = rw e
 
-  paired-not : isDigit x ≡ false → ended (Ends.NoDigit at) ≡ pairOf at x y rest
+  paired-not : isHexDigit x ≡ false → ended (Ends.NoDigit at) ≡ pairOf at x y rest
   unfolding pairOf
   paired-not e = rw e
 
@@ -130,9 +130,9 @@ module _ (at x y : ℕ) (rest : Hex) where
 pub by-pairs : (room at : ℕ) (text : List ℕ) → steppedFrom room at 16 text ≡ hexFrom room at text
 unfolding steppedFrom hexFrom stepOf firstOf
 by-pairs room at [] = refl
-by-pairs room at (x ∷ []) = by (eqb room 0) (isBlank x) (isDigit x) refl
+by-pairs room at (x ∷ []) = by (eqb room 0) (isBlank x) (isHexDigit x) refl
   where
-    by : (r b c : Bool) → isDigit x ≡ c
+    by : (r b c : Bool) → isHexDigit x ≡ c
         → pick r (ended Ends.Good) (elim (pick b (Step.Waits 16) (pick c (Step.Waits (digitOf x)) (Step.Wrong (Ends.NoDigit at)))) [
           | Step.Waits h ↦ steppedFrom room (suc at) h []
           | Step.Octet n ↦ behind n (steppedFrom (room - 1) (suc at) 16 [])
@@ -143,9 +143,9 @@ by-pairs room at (x ∷ []) = by (eqb room 0) (isBlank x) (isDigit x) refl
     by false true c q = refl
     by false false true q = let z : suc at - 1 ≡ at = omega arith in rw q (ap (λ (n : ℕ). ended (Ends.Odd n)) z)
     by false false false q = refl
-by-pairs room at (x ∷ y ∷ s) = by (eqb room 0) (isBlank x) (isDigit x) refl refl (by-pairs room (suc at) (y ∷ s)) (by-pairs (room - 1) (suc (suc at)) s)
+by-pairs room at (x ∷ y ∷ s) = by (eqb room 0) (isBlank x) (isHexDigit x) refl refl (by-pairs room (suc at) (y ∷ s)) (by-pairs (room - 1) (suc (suc at)) s)
   where
-    by : (r b c : Bool) → eqb room 0 ≡ r → isDigit x ≡ c → steppedFrom room (suc at) 16 (y ∷ s) ≡ hexFrom room (suc at) (y ∷ s)
+    by : (r b c : Bool) → eqb room 0 ≡ r → isHexDigit x ≡ c → steppedFrom room (suc at) 16 (y ∷ s) ≡ hexFrom room (suc at) (y ∷ s)
         → steppedFrom (room - 1) (suc (suc at)) 16 s ≡ hexFrom (room - 1) (suc (suc at)) s
         → pick r (ended Ends.Good) (elim (pick b (Step.Waits 16) (pick c (Step.Waits (digitOf x)) (Step.Wrong (Ends.NoDigit at)))) [
           | Step.Waits h ↦ steppedFrom room (suc at) h (y ∷ s)

@@ -5,15 +5,15 @@ use lib.Dec.{eqb, ltb}
 use Rattle.definitions.specs.Basic.{pick}
 use Rattle.arguments.specs.declared.hex.Ends.{Ends}
 use Rattle.arguments.specs.declared.hex.Step.{Step}
-use Rattle.arguments.specs.Hex.{isBlank, digitOf, Hex, ended, behind}
+use Rattle.arguments.specs.Hex.{isBlank, digitOf, isHexDigit, Hex, ended, behind}
 
 -- what waits then, an octet, or what is wrong
 unfoldable pub firstOf : ℕ → ℕ → Step
-firstOf at x = pick (isBlank x) (Step.Waits 16) (pick (ltb (digitOf x) 16) (Step.Waits (digitOf x)) (Step.Wrong (Ends.NoDigit at)))
+firstOf at x = pick (isBlank x) (Step.Waits 16) (pick (isHexDigit x) (Step.Waits (digitOf x)) (Step.Wrong (Ends.NoDigit at)))
 
 unfoldable pub secondOf : ℕ → ℕ → ℕ → Step
 secondOf at half x =
-    pick (isBlank x) (Step.Wrong (Ends.Odd (at - 1))) (pick (ltb (digitOf x) 16) (Step.Octet (16 * half + digitOf x)) (Step.Wrong (Ends.NoDigit at)))
+    pick (isBlank x) (Step.Wrong (Ends.Odd (at - 1))) (pick (isHexDigit x) (Step.Octet (16 * half + digitOf x)) (Step.Wrong (Ends.NoDigit at)))
 
 unfoldable pub stepOf : ℕ → ℕ → ℕ → Step
 stepOf at half x = pick (ltb half 16) (secondOf at half x) (firstOf at x)

@@ -79,7 +79,8 @@ cameBy table start option s left x iei k =
     pick (eqb k 255) (cameStrange x (missing start left) left (unknownLength start left))
     (cameKnown (rowSaid (numbersAt table k)) iei option (bit k (setOf (s .seen))) (ltb k (s .highest)) left)
 
--- what stands at a state's position: by the index of a table that passes its check, the definition's step
+-- what stands at a state's position; by the index of a table that passes its check it is the definition's step, and by another it only
+-- says which answer there is
 unfoldable pub stepBy : List ℕ → List ℕ → ℕ → Bool → List ℕ → State → Step
 stepBy table index start option part s =
     let left : List ℕ = drop (s .at) part in

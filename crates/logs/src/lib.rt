@@ -1,4 +1,4 @@
-// Both logs of a message checked at once, as writing and the findings do before anything else is made of them.
+// Whether a log is well formed: each by itself, as writing asks, and both at once, as the findings do.
 use kept::Count;
 use kept::entry_at;
 use order::Front;

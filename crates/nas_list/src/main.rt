@@ -1,5 +1,5 @@
 // Lists the elements of an optional part: the part on standard input, the listing on standard output. The arguments, as bin/launch
-// hands them over: 1 the table number, 2 whether the option is on, 4 whether the part is text in hex, 0 or 1 each.
+// hands them over: 1 the table number; 2 whether the option is on and 4 whether the part is text in hex, 0 or 1 each.
 use arguments::argument_or;
 use arguments::streams::FAILED;
 use arguments::streams::read_part;

@@ -28,6 +28,10 @@ numberIn at s i = numberFrom 4 (after at (2 + 4 * i)) s
 abbrev pub repeatAt : ℕ → List ℕ → ℕ
 repeatAt at s = after at (2 + numberFrom 2 at s)
 
+-- two octets for the times, and the octet
+abbrev pub stringEnd : ℕ → List ℕ → ℕ
+stringEnd at s = after (repeatAt at s) 3
+
 abbrev pub stringLength : ℕ → List ℕ → ℕ
 stringLength at s = numberFrom 2 at s + numberFrom 2 (repeatAt at s) s
 

@@ -54,10 +54,14 @@ fn print_refusals(counts: &[u32]) {
     }
 }
 
-// Each count that is not 0, and how many cases there are.
-pub fn print_counts(cases: u32, counts: &[u32]) {
+// All counts, of the refusals those that are not 0, and how many cases there are; and where the list does not end with its last case,
+// that it does not.
+pub fn print_counts(cases: u32, counts: &[u32], is_whole: bool) {
     print_count(b"done ", cell(counts, 0));
     print_refusals(counts);
     print_count(b"cases ", cases);
     print_count(b"recorded answers ", cell(counts, SAME));
+    if !is_whole {
+        io::write_all(1, b"the list ends elsewhere than its last case\n");
+    }
 }

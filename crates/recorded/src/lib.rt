@@ -3,10 +3,13 @@
 ghost use mathlib.Core.Path.{_≡_};
 ghost use Prim.Native.Nat.{_+_, _*_, _≤_};
 ghost use lib.ListN.{getD, take};
-ghost use Rattle.recorded.specs.Format.{after, numberFrom, repeatAt, stringLength};
+ghost use Rattle.recorded.specs.Format.{after, numberFrom, repeatAt, stringEnd, stringLength};
 
 pub mod counts;
 pub mod lent;
+
+// What a case has in place of a table number where its table is lent.
+pub const LENT_TABLE: u8 = 255;
 
 use octets::Cursor;
 use octets::Four;
@@ -73,9 +76,9 @@ fn repeat_at(list: &[u8], at: usize) -> usize
 }
 
 pub fn string_end(list: &[u8], at: usize) -> usize
-    ensures { λ r. ⌜ r ≡ after at (5 + numberFrom 2 at (now (list .entry))) ⌝ }
+    ensures { λ r. ⌜ r ≡ stringEnd at (now (list .entry)) ⌝ }
 {
-    after(at, 5 + two(list, at))
+    after(repeat_at(list, at), 3)
 }
 
 pub fn string_len(list: &[u8], at: usize) -> usize
@@ -86,13 +89,13 @@ pub fn string_len(list: &[u8], at: usize) -> usize
 
 // A string, and in four octets how many of its octets are used.
 pub fn used_end(list: &[u8], at: usize) -> usize
-    ensures { λ r. ⌜ r ≡ after at (9 + numberFrom 2 at (now (list .entry))) ⌝ }
+    ensures { λ r. ⌜ r ≡ after (stringEnd at (now (list .entry))) 4 ⌝ }
 {
-    after(at, 9 + two(list, at))
+    after(string_end(list, at), 4)
 }
 
 pub fn used(list: &[u8], at: usize) -> usize
-    ensures { λ r. ⌜ r ≡ numberFrom 4 (after at (5 + numberFrom 2 at (now (list .entry)))) (now (list .entry)) ⌝ }
+    ensures { λ r. ⌜ r ≡ numberFrom 4 (stringEnd at (now (list .entry))) (now (list .entry)) ⌝ }
 {
     number(list, string_end(list, at))
 }

@@ -6,6 +6,7 @@ use octets::part;
 use reading::decode::Decoded;
 use reading::decode::decode_optional_ies;
 use reading::decode::decode_optional_ies_by;
+use recorded::LENT_TABLE;
 use recorded::after;
 use recorded::cell;
 use recorded::counts::print_counts;
@@ -23,8 +24,6 @@ use recorded::octet;
 use recorded::string_end;
 use recorded::string_len;
 use recorded::two;
-
-const LENT_TABLE: u8 = 255;
 
 // A case of the list: how it is read, how much is lent, and where its parts stand.
 struct Case {
@@ -270,7 +269,7 @@ fn run_case(list: &[u8], c: Case) -> bool {
 }
 
 // All cases.
-fn run_list(list: &[u8], counts: &mut [u32]) {
+fn run_list(list: &[u8], counts: &mut [u32]) -> usize {
     let n = four(list, 0);
     let mut at = 4;
     let mut k = 0u32;
@@ -280,12 +279,13 @@ fn run_list(list: &[u8], counts: &mut [u32]) {
         at = string_end(list, c.order_at);
         k += 1;
     }
+    at
 }
 
 fn run_all(list: &[u8]) {
     let mut counts = [0u32; 257];
-    run_list(list, &mut counts);
-    print_counts(four(list, 0), &counts);
+    let end = run_list(list, &mut counts);
+    print_counts(four(list, 0), &counts, end == list.len());
 }
 
 fn main() {

@@ -11,6 +11,7 @@ use mandatory_writing::by::encode_mandatory_ies_by;
 use mandatory_writing::encode::MandatoryWrote;
 use mandatory_writing::encode::encode_mandatory_ies;
 use octets::part;
+use recorded::LENT_TABLE;
 use recorded::after;
 use recorded::answer_end;
 use recorded::counts::print_counts;
@@ -34,8 +35,6 @@ use recorded::used_end;
 
 // The kind of a reading; any other is a writing.
 const READING: u8 = 4;
-
-const LENT_TABLE: u8 = 255;
 
 // Notes that there is room for in an answer.
 const NOTES: usize = 32;
@@ -313,7 +312,7 @@ fn run_any(list: &[u8], at: usize, c: Case) -> bool {
 }
 
 // All cases.
-fn run_list(list: &[u8], counts: &mut [u32]) {
+fn run_list(list: &[u8], counts: &mut [u32]) -> usize {
     let n = four(list, 0);
     let mut at = 4;
     let mut k = 0u32;
@@ -323,12 +322,13 @@ fn run_list(list: &[u8], counts: &mut [u32]) {
         at = c.end;
         k += 1;
     }
+    at
 }
 
 fn run_all(list: &[u8]) {
     let mut counts = [0u32; 257];
-    run_list(list, &mut counts);
-    print_counts(four(list, 0), &counts);
+    let end = run_list(list, &mut counts);
+    print_counts(four(list, 0), &counts, end == list.len());
 }
 
 fn main() {

@@ -8,6 +8,7 @@ use edits::set_place;
 use findings::Found;
 use findings::optional_ie_order_findings;
 use octets::part;
+use recorded::LENT_TABLE;
 use recorded::after;
 use recorded::answer_end;
 use recorded::counts::print_counts;
@@ -36,8 +37,6 @@ use writing::encode::encode_optional_ies_by;
 const SETTING: u8 = 2;
 
 const FINDINGS: u8 = 6;
-
-const LENT_TABLE: u8 = 255;
 
 // A case of the list: where its parts stand.
 struct Case {
@@ -480,7 +479,7 @@ fn run_case(list: &[u8], c: Case) -> bool {
 }
 
 // All cases.
-fn run_list(list: &[u8], counts: &mut [u32]) {
+fn run_list(list: &[u8], counts: &mut [u32]) -> usize {
     let n = four(list, 0);
     let mut at = 4;
     let mut k = 0u32;
@@ -490,12 +489,13 @@ fn run_list(list: &[u8], counts: &mut [u32]) {
         at = case_end(list, c);
         k += 1;
     }
+    at
 }
 
 fn run_all(list: &[u8]) {
     let mut counts = [0u32; 257];
-    run_list(list, &mut counts);
-    print_counts(four(list, 0), &counts);
+    let end = run_list(list, &mut counts);
+    print_counts(four(list, 0), &counts, end == list.len());
 }
 
 fn main() {

@@ -1,14 +1,11 @@
--- `used_end` is behind the string and the number of its used octets, as many as two octets say.
--- Each number is what its call ensures.
+-- `used_end` is behind the number of the used octets, which is behind the string.
+-- Its position is what `string_end` ensures.
 use borrow.Author.Needs.{needs}
 use Rattle.recorded.proofs.used_end.Statement.{statement}
 use Rattle.recorded.proofs.used_end.Tie as tie
 
-two-requires : tie.Need-two-requires
-two-requires c κs = search needs
-
-add-after : tie.Need-add-after
-add-after c = search needs
+string-end-requires : tie.Need-string-end-requires
+string-end-requires c κs = search needs
 
 after-requires : tie.Need-after-requires
 after-requires c κs = search needs
@@ -17,4 +14,4 @@ returns : tie.Need-returns
 returns c = cc
 
 pub used-end-spec : {M : Type 1} → statement M
-used-end-spec = tie.close (tie.spec two-requires add-after after-requires returns)
+used-end-spec = tie.close (tie.spec string-end-requires after-requires returns)
