@@ -178,10 +178,6 @@ not-long most s n e = by (ltb (length s) n) (ltb most n) refl refl e
     by false true x y z = absurd (false≢true (sym z))
     by false false x y z = (ltb-false (length s) n x, ltb-false most n y)
 
-used-short : (most : ℕ) (s : List ℕ) (n : ℕ) → n ≤ length s → n ≤ most → tooLong most (usedOf s n) ≡ false
-unfolding tooLong
-used-short most s n h g = rw (le-ltb (length s) n h, le-ltb most n g)
-
 same-content : (s : List ℕ) (n : ℕ) → content (usedUp (take n s)) ≡ content (usedOf s n)
 unfolding content
 same-content s n = take-all (length (take n s)) (take n s) (omega arith)

@@ -60,10 +60,6 @@ module _ (table rows received set : List ℕ) (k : ℕ) (row : ValueRow) (e : va
   unfolding present
   not-present z = rw (← e, z)
 
-  pub fits-absent : row .source ≡ 0 → unfitAt (rowsOf table) o rows k ≡ false
-  unfolding unfitAt present
-  fits-absent z = rw (← e, z)
-
   module _ (n : row .source ≡ 0 → ⊥) where
     one : 1 ≤ row .source
     one = omega (arith, n)
