@@ -6,5 +6,6 @@ pub mod Tallying
 pub mod Surveying
 pub mod Walking
 pub mod Encoding
+pub mod Plaining
 pub mod SameAnswers
 pub mod WrittenBack

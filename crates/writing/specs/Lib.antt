@@ -3,3 +3,4 @@ pub mod Puts
 pub mod Walks
 pub mod Sizes
 pub mod Encodes
+pub mod Plains

@@ -1,4 +1,6 @@
 // Writing an optional part by a table.
+use crate::plain::Plain;
+use crate::plain::write_plain;
 use crate::sizes::Logged;
 use crate::sizes::Surveyed;
 use crate::sizes::Walked;
@@ -105,8 +107,8 @@ fn encode_formed<'a>(
     }
 }
 
-// The same of any two logs.
-fn encode_used<'a>(
+// The same of any two logs, measured first.
+fn encode_logged<'a>(
     table: &[u32],
     index: &[u8],
     rows: &[u32],
@@ -136,6 +138,26 @@ fn encode_used<'a>(
             Kept::Malformed => Encoded::Malformed(Which::Kept),
         },
         Walked::Malformed => Encoded::Malformed(Which::Order),
+    }
+}
+
+// The same; without a logged element and a kept one in one pass, where that does.
+fn encode_used<'a>(
+    table: &[u32],
+    index: &[u8],
+    rows: &[u32],
+    received: &'a [u8],
+    set: &'a [u8],
+    kept: &[u8],
+    order: &[u8],
+    output: &mut [u8],
+) -> Encoded
+    requires { ⌜ Limited (now table) (now index) (now rows) (now received) (now set) (now kept) (now order) ⌝ }
+    ensures { λ r. ⌜ Encodes (writing (now (table .entry)) (now (rows .entry)) (now (received .entry)) (usedUp (now (set .entry))) (usedUp (now (order .entry))) (usedUp (now (kept .entry))) (now (output .entry))) r (now (output .exit)) ⌝ }
+{
+    match write_plain(table, rows, received, set, kept.len() + order.len(), output) {
+        Plain::At(n) => Encoded::Done(n),
+        Plain::Not => encode_logged(table, index, rows, received, set, kept, order, output),
     }
 }
 

@@ -1,63 +1,47 @@
--- `encode_used` asks the order log, then the kept log, and writes by two that are well formed.
--- Each way out cites the law of its check.
-use mathlib.Core.Path.{sym, _∙_}
-use Rattle.logs.proofs.Formed.{kept-not}
-use Rattle.writing.specs.Walks.{filledOf}
-use Rattle.writing.specs.Sizes.{LoggedBy}
-use Rattle.writing.proofs.Encoding.{no-order, no-kept}
+-- `encode_used` writes in one pass where that does, and else measures first.
+-- Where the pass gave up the output is as it was.
+use Rattle.writing.proofs.Plaining.{unlogged-done}
 use borrow.Author.Needs.{needs}
 use Rattle.writing.proofs.encode.encode_used.Statement.{statement}
 use Rattle.writing.proofs.encode.encode_used.Tie as tie
 
-logged-len-requires : tie.Need-logged-len-requires
-logged-len-requires c κs = (c .before .before .before .before .before .before .before .before .pre .sized, c .before .before .before .before .before .before .before .before .pre .order-short)
+add-write-plain : tie.Need-add-write-plain
+add-write-plain c = search needs
 
-enum-known-t : tie.Need-enum-known-t
-enum-known-t c = search needs
+write-plain-requires : tie.Need-write-plain-requires
+write-plain-requires c κs = search needs
 
-kept-len-requires : tie.Need-kept-len-requires
-kept-len-requires c κs = search needs
-
-enum-known-octets : tie.Need-enum-known-octets
-enum-known-octets c = search needs
-
--- what the order log says
-logged : (c : tie.After-known-told) → let a = c .before .before .before .before .before .before .before .before .before .before .before .before .args in LoggedBy (filledOf (a .table .now) (a .rows .now) (a .received .now) (a .set .now)) (a .order .now) (c .before .t .given .0 .0)
-logged c = rw (c .before .t .given .1) at (c .before .before .before .logged-len .ensures)
-
-encode-formed-requires : tie.Need-encode-formed-requires
-encode-formed-requires c κs = (c .before .before .before .before .before .before .before .before .before .before .before .before .before .before .before .before .before .pre, logged (c .before .before .before .before .before), sym (c .before .before .octets .given .1) ∙ c .before .before .before .before .kept-len .ensures)
+enum-known-n : tie.Need-enum-known-n
+enum-known-n c = search needs
 
 enum-told : tie.Need-enum-told
 enum-told c = search needs
 
-enum-told-2 : tie.Need-enum-told-2
-enum-told-2 c = search needs
+encode-logged-requires : tie.Need-encode-logged-requires
+encode-logged-requires c κs = search needs
 
 same-length : tie.Need-same-length
 same-length c = search needs
 
 returns : tie.Need-returns
-returns c = search needs
+returns c = let a = c .before .before .before .before .before .before .before .before .before .before .before .before .before .before .before .args in let u = rw (c .before .n .given .1) at (c .before .before .before .before .before .write-plain .ensures) in unlogged-done (a .table .now) (a .index .now) (a .rows .now) (a .received .now) (a .set .now) (a .output .now) (a .kept .now) (a .order .now) (c .before .before .before .before .before .before .before .before .before .before .before .before .before .before .before .pre) (u .0) (u .1)
+
+same-length-2 : tie.Need-same-length-2
+same-length-2 c = search needs
 
 returns-2 : tie.Need-returns-2
-returns-2 c = let a = c .before .before .before .before .before .before .before .before .before .before .before .before .before .before .before .args in let l = logged (c .before .before .before) in no-kept (a .table .now) (a .index .now) (a .rows .now) (a .received .now) (a .set .now) (a .kept .now) (a .order .now) (a .output .now) (c .before .before .before .before .before .before .before .before .before .before .before .before .before .before .before .pre) (l .tells .ps) (l .tells .is) (kept-not (a .kept .now) (sym (c .enum-told .given .1) ∙ c .before .before .kept-len .ensures))
-
-returns-3 : tie.Need-returns-3
-returns-3 c = let a = c .before .before .before .before .before .before .before .before .before .before .before .args in no-order (a .table .now) (a .index .now) (a .rows .now) (a .received .now) (a .set .now) (a .kept .now) (a .order .now) (a .output .now) (c .before .before .before .before .before .before .before .before .before .before .before .pre) (rw (c .enum-told2 .given .1) at (c .before .before .logged-len .ensures))
+returns-2 c = rw (rw (c .before .before .before .before .enum-told .given .1) at (c .before .before .before .before .before .before .before .before .write-plain .ensures)) at (c .before .before .encode-logged .ensures)
 
 pub encode-used-spec : {M : Type 1} → statement M
 encode-used-spec =
     tie.close
     (tie.spec
-    logged-len-requires
-    enum-known-t
-    kept-len-requires
-    enum-known-octets
-    encode-formed-requires
+    add-write-plain
+    write-plain-requires
+    enum-known-n
     enum-told
-    enum-told-2
+    encode-logged-requires
     same-length
     returns
-    returns-2
-    returns-3)
+    same-length-2
+    returns-2)
