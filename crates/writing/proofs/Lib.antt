@@ -8,4 +8,3 @@ pub mod Walking
 pub mod Encoding
 pub mod Plaining
 pub mod SameAnswers
-pub mod WrittenBack

@@ -1,0 +1,2 @@
+-- What is read is written back, by the contracts.
+pub mod WrittenBack
