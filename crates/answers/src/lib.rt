@@ -1,6 +1,7 @@
 // Each answer as document 01's number, which is returned, and its values in five lent places: how many there are, then the
 // values in document 01's order. The places behind them stay as they were.
 use checking::PartCheck;
+use checks::Checked;
 use edits::Edited;
 use elements::element::State;
 use elements::next::NextElement;
@@ -19,7 +20,6 @@ use order::IgnoredIeReason;
 use order::Placed;
 use reading::decode::Decoded;
 use reading::decode::Room;
-use rows::check::Checked;
 use rows::index::Place;
 use values::show::Shown;
 use why::Fault;
@@ -38,7 +38,8 @@ ghost use Rattle.mandatory_writing.specs.Writes.{wroteAs};
 ghost use Rattle.order.specs.Order.{placedAs, entryAs};
 ghost use Rattle.reading.specs.Decodes.{roomAs, decodedAs};
 ghost use Rattle.values.specs.Shows.{shownAs};
-ghost use Rattle.rows.specs.Answers.{checkedAs, placeAs};
+ghost use Rattle.rows.specs.Answers.{placeAs};
+ghost use Rattle.checks.specs.Answers.{checkedAs};
 ghost use Rattle.why.specs.Whys.{faultAs, whyAs};
 ghost use Rattle.writing.specs.Encodes.{whichAs, encodedAs};
 ghost use Rattle.answers.specs.Mandated.{usedNotes, notesPut, briefAs, MandatedSays};
