@@ -4,8 +4,8 @@ use mathlib.Core.Option.{Option, none, some}
 use lib.Dec.{eqb}
 use Rattle.definitions.specs.Basic.{pick}
 use Rattle.definitions.specs.Mandatory.{MandatoryRow, Found as DefFound, missing, truncated, value, faultOf}
-use Rattle.mandatory.specs.declared.ie.Fault.{Fault}
-use Rattle.mandatory.specs.declared.ie.Found.{Found}
+use Rattle.mandatory_ie.specs.declared.Fault.{Fault}
+use Rattle.mandatory_ie.specs.declared.Found.{Found}
 
 abbrev pub faultAs : Option ℕ → Fault
 faultAs none = Fault.Nothing

@@ -6,10 +6,10 @@ use mathlib.Core.Path.{_≡_, ap, sym, _∙_}
 use Rattle.definitions.specs.Mandatory.{MandatoryForm, lowHalf, highHalf, fixedV, lv, lv-e, mandatoryRowsOf, mandatoryRowAt, mandatoryForm, behind, foundBy}
 use Rattle.definitions.proofs.Mandatories.{found-none, found-low, found-high, found-fixed, found-lv, found-lv-e}
 use Rattle.rows.specs.Forms.{mandatoryFormAs}
-use Rattle.mandatory.specs.Founds.{foundAs}
+use Rattle.mandatory_ie.specs.Founds.{foundAs}
 use borrow.Author.Needs.{needs}
-use Rattle.mandatory.proofs.ie.decode_mandatory_ie.Statement.{statement}
-use Rattle.mandatory.proofs.ie.decode_mandatory_ie.Tie as tie
+use Rattle.mandatory_ie.proofs.decode_mandatory_ie.Statement.{statement}
+use Rattle.mandatory_ie.proofs.decode_mandatory_ie.Tie as tie
 
 returns : tie.Need-returns
 returns c = let a = c .before .before .before .args in ap (foundAs (mandatoryRowAt (mandatoryRowsOf (a .table .now)) (a .row))) (sym (found-none (mandatoryForm (mandatoryRowAt (mandatoryRowsOf (a .table .now)) (a .row))) (a .left .now) (omega arith)))

@@ -13,7 +13,7 @@ ghost use mathlib.Core.Option.{none, some};
 ghost use Rattle.definitions.specs.Basic.{pick};
 ghost use Rattle.definitions.specs.Octets.{numberAt};
 ghost use Rattle.definitions.specs.Mandatory.{mandatoryRowsOf, mandatoryRowAt, mandatoryForm, behind, counted, foundBy, faultOf, value};
-ghost use Rattle.mandatory.specs.Founds.{faultAs, foundAs};
+ghost use Rattle.mandatory_ie.specs.Founds.{faultAs, foundAs};
 
 // What is wrong with a complete value: nothing, under the least length, or not receivable.
 pub enum Fault {

@@ -6,10 +6,10 @@ use mathlib.Core.Option.{Option}
 use Rattle.definitions.specs.Mandatory.{mandatoryRowsOf, mandatoryRowAt, behind, counted}
 use Rattle.definitions.specs.Octets.{numberAt}
 use Rattle.octets.proofs.Laws.{pair-is, pair-short}
-use Rattle.mandatory.specs.Founds.{foundAs}
+use Rattle.mandatory_ie.specs.Founds.{foundAs}
 use borrow.Author.Needs.{needs}
-use Rattle.mandatory.proofs.ie.behind_pair.Statement.{statement}
-use Rattle.mandatory.proofs.ie.behind_pair.Tie as tie
+use Rattle.mandatory_ie.proofs.behind_pair.Statement.{statement}
+use Rattle.mandatory_ie.proofs.behind_pair.Tie as tie
 
 get-u16-requires : tie.Need-get-u16-requires
 get-u16-requires c κs = search needs

@@ -12,9 +12,9 @@ use lib.Dec.{leb}
 use Rattle.definitions.specs.Basic.{pick}
 use Rattle.definitions.specs.Octets.{numberAt}
 use Rattle.definitions.specs.Mandatory.{MandatoryRow, MandatoryForm, lowHalf, highHalf, fixedV, lv, lv-e, mandatoryForm, Found as DefFound, missing, truncated, value, behind, counted, foundBy}
-use Rattle.mandatory.specs.Founds.{foundAs}
-use Rattle.mandatory.specs.declared.ie.Fault.{Fault}
-use Rattle.mandatory.specs.declared.ie.Found.{Found}
+use Rattle.mandatory_ie.specs.Founds.{foundAs}
+use Rattle.mandatory_ie.specs.declared.Fault.{Fault}
+use Rattle.mandatory_ie.specs.declared.Found.{Found}
 
 abbrev Within : ℕ → DefFound → Type 0
 Within l missing = Unit

@@ -6,11 +6,11 @@ use Prim.Native.Nat.{ℕ, _+_, _-_}
 use lib.ListN.{take, drop}
 use Rattle.definitions.specs.Mandatory.{mandatoryRowsOf, mandatoryRowAt, faultOf}
 use Rattle.definitions.proofs.Mandatories.{behind-short, behind-there}
-use Rattle.mandatory.specs.Founds.{faultAs, foundAs}
-use Rattle.mandatory.specs.declared.ie.Found.{Found}
+use Rattle.mandatory_ie.specs.Founds.{faultAs, foundAs}
+use Rattle.mandatory_ie.specs.declared.Found.{Found}
 use borrow.Author.Needs.{needs}
-use Rattle.mandatory.proofs.ie.behind.Statement.{statement}
-use Rattle.mandatory.proofs.ie.behind.Tie as tie
+use Rattle.mandatory_ie.proofs.behind.Statement.{statement}
+use Rattle.mandatory_ie.proofs.behind.Tie as tie
 
 returns : tie.Need-returns
 returns c = let a = c .before .before .before .args in ap (foundAs (mandatoryRowAt (mandatoryRowsOf (a .table .now)) (a .row))) (sym (behind-short (a .h) (a .n) (a .left .now) (omega arith)))

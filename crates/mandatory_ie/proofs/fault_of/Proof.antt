@@ -7,8 +7,8 @@ use mathlib.Core.Option.{Option, none, some}
 use Rattle.definitions.specs.Basic.{pick}
 use Rattle.definitions.specs.Mandatory.{isHalf, faultOf}
 use borrow.Author.Needs.{needs}
-use Rattle.mandatory.proofs.ie.fault_of.Statement.{statement}
-use Rattle.mandatory.proofs.ie.fault_of.Tie as tie
+use Rattle.mandatory_ie.proofs.fault_of.Statement.{statement}
+use Rattle.mandatory_ie.proofs.fault_of.Tie as tie
 
 mandatory-least-at-requires : tie.Need-mandatory-least-at-requires
 mandatory-least-at-requires c κs = search needs
