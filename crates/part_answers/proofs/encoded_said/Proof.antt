@@ -1,8 +1,8 @@
 -- `encoded_said` gives the number and the values of a writing.
 -- Each arm names the case; its values are put by the call.
 use borrow.Author.Needs.{needs}
-use Rattle.answers.proofs.encoded_said.Statement.{statement}
-use Rattle.answers.proofs.encoded_said.Tie as tie
+use Rattle.part_answers.proofs.encoded_said.Statement.{statement}
+use Rattle.part_answers.proofs.encoded_said.Tie as tie
 
 enum-known-encoded : tie.Need-enum-known-encoded
 enum-known-encoded c = search needs

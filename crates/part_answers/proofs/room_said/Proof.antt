@@ -1,8 +1,8 @@
--- `which_said` gives the number and the value of what is malformed.
+-- `room_said` gives the number and the values of a lack of room.
 -- Each arm names the case; its values are put by the call.
 use borrow.Author.Needs.{needs}
-use Rattle.answers.proofs.which_said.Statement.{statement}
-use Rattle.answers.proofs.which_said.Tie as tie
+use Rattle.part_answers.proofs.room_said.Statement.{statement}
+use Rattle.part_answers.proofs.room_said.Tie as tie
 
 enum-told : tie.Need-enum-told
 enum-told c = search needs
@@ -31,8 +31,8 @@ returns-2 c = rw (c .before .before .enum-told2 .given .1) (c .one2 .ensures)
 returns-3 : tie.Need-returns-3
 returns-3 c = rw (c .before .before .enum-told3 .given .1) (c .one3 .ensures)
 
-pub which-said-spec : {M : Type 1} → statement M
-which-said-spec =
+pub room-said-spec : {M : Type 1} → statement M
+room-said-spec =
     tie.close
     (tie.spec
     enum-told

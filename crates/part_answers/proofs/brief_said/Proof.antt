@@ -1,8 +1,8 @@
 -- `brief_said` gives the number and the values of its answer.
 -- Each arm names the case; its values are put by the call.
 use borrow.Author.Needs.{needs}
-use Rattle.answers.proofs.brief_said.Statement.{statement}
-use Rattle.answers.proofs.brief_said.Tie as tie
+use Rattle.part_answers.proofs.brief_said.Statement.{statement}
+use Rattle.part_answers.proofs.brief_said.Tie as tie
 
 enum-known-mandated : tie.Need-enum-known-mandated
 enum-known-mandated c = search needs

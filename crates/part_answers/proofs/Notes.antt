@@ -19,9 +19,9 @@ use Rattle.mandatory.specs.declared.notes.Notes.{Notes}
 use Rattle.mandatory.specs.declared.decode.Mandated.{Mandated}
 use Rattle.mandatory.specs.declared.decode.MandatoryRead.{MandatoryRead}
 use Rattle.mandatory.proofs.Noting.{flat-append}
 use Rattle.answers.specs.Says.{putFrom, put}
-use Rattle.answers.specs.Mandated.{notesCount, briefly, notesIn, MandatorySays, usedNotes, firstNotes, notesPut, briefAs, MandatedSays}
+use Rattle.part_answers.specs.Mandated.{notesCount, briefly, notesIn, MandatorySays, usedNotes, firstNotes, notesPut, briefAs, MandatedSays}
 use Rattle.answers.proofs.Laws.{said-by}
 
 -- ---- one note more
 

@@ -1,8 +1,8 @@
 -- `wrote_said` gives the number and the values of a writing of mandatory rows.
 -- Each arm names the case; its values are put by the call.
 use borrow.Author.Needs.{needs}
-use Rattle.answers.proofs.wrote_said.Statement.{statement}
-use Rattle.answers.proofs.wrote_said.Tie as tie
+use Rattle.part_answers.proofs.wrote_said.Statement.{statement}
+use Rattle.part_answers.proofs.wrote_said.Tie as tie
 
 enum-known-wrote : tie.Need-enum-known-wrote
 enum-known-wrote c = search needs

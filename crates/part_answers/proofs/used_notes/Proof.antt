@@ -2,8 +2,8 @@
 -- Each way out has its test.
 use native.Mathlib.Omega.{arith}
 use borrow.Author.Tests.{lt-ltb, le-ltb}
-use Rattle.answers.proofs.used_notes.Statement.{statement}
-use Rattle.answers.proofs.used_notes.Tie as tie
+use Rattle.part_answers.proofs.used_notes.Statement.{statement}
+use Rattle.part_answers.proofs.used_notes.Tie as tie
 
 returns : tie.Need-returns
 returns c = rw (lt-ltb (c .before .args .count) 32 (omega arith))

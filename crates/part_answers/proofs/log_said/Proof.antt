@@ -1,8 +1,8 @@
 -- `log_said` gives the number and the value of a malformed log.
 -- Each arm names the case; its value is put by the call.
 use borrow.Author.Needs.{needs}
-use Rattle.answers.proofs.log_said.Statement.{statement}
-use Rattle.answers.proofs.log_said.Tie as tie
+use Rattle.part_answers.proofs.log_said.Statement.{statement}
+use Rattle.part_answers.proofs.log_said.Tie as tie
 
 enum-told : tie.Need-enum-told
 enum-told c = search needs

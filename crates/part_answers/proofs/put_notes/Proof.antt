@@ -3,12 +3,12 @@
 use Prim.Native.Nat.{ℕ, _-_, _≤_}
 use native.Mathlib.Omega.{arith}
 use mathlib.Core.Path.{_≡_, ap, _∙_}
 use Rattle.answers.specs.Says.{put}
-use Rattle.answers.specs.Mandated.{firstNotes}
-use Rattle.answers.proofs.Notes.{note-put, none-put, used-few}
+use Rattle.part_answers.specs.Mandated.{firstNotes}
+use Rattle.part_answers.proofs.Notes.{note-put, none-put, used-few}
 use borrow.Author.Needs.{needs}
-use Rattle.answers.proofs.put_notes.Statement.{statement}
-use Rattle.answers.proofs.put_notes.Tie as tie
+use Rattle.part_answers.proofs.put_notes.Statement.{statement}
+use Rattle.part_answers.proofs.put_notes.Tie as tie
 
 abbrev Inv-loop : tie.InvT-loop
 Inv-loop notes₀ from used i₀ notes i = (i ≤ used) × (used ≤ 32) × (notes ≡ put (firstNotes i (from .notes)) notes₀)

@@ -2,11 +2,11 @@
 -- Two calls, each by its contract.
 use Prim.Native.Nat.{ℕ}
 use mathlib.Core.Path.{ap}
-use Rattle.answers.specs.Mandated.{briefAs}
+use Rattle.part_answers.specs.Mandated.{briefAs}
 use Rattle.answers.proofs.Laws.{said-by}
 use borrow.Author.Needs.{needs}
-use Rattle.answers.proofs.mandated_said.Statement.{statement}
-use Rattle.answers.proofs.mandated_said.Tie as tie
+use Rattle.part_answers.proofs.mandated_said.Statement.{statement}
+use Rattle.part_answers.proofs.mandated_said.Tie as tie
 
 put-notes-requires : tie.Need-put-notes-requires
 put-notes-requires c κs = search needs

@@ -1,8 +1,8 @@
 -- `decoded_said` gives the number and the values of a reading.
 -- Each arm names the case; its values are put by the call.
 use borrow.Author.Needs.{needs}
-use Rattle.answers.proofs.decoded_said.Statement.{statement}
-use Rattle.answers.proofs.decoded_said.Tie as tie
+use Rattle.part_answers.proofs.decoded_said.Statement.{statement}
+use Rattle.part_answers.proofs.decoded_said.Tie as tie
 
 enum-known-decoded : tie.Need-enum-known-decoded
 enum-known-decoded c = search needs

@@ -1,8 +1,8 @@
 -- `found_said` gives the number and the values of the findings.
 -- Each arm names the case; its values are put by the call.
 use borrow.Author.Needs.{needs}
-use Rattle.answers.proofs.found_said.Statement.{statement}
-use Rattle.answers.proofs.found_said.Tie as tie
+use Rattle.part_answers.proofs.found_said.Statement.{statement}
+use Rattle.part_answers.proofs.found_said.Tie as tie
 
 enum-known-found : tie.Need-enum-known-found
 enum-known-found c = search needs

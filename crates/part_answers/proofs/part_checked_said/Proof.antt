@@ -1,8 +1,8 @@
 -- `part_checked_said` gives the number and the values of a checked part.
 -- Each arm names the case; its values are put by the call.
 use borrow.Author.Needs.{needs}
-use Rattle.answers.proofs.part_checked_said.Statement.{statement}
-use Rattle.answers.proofs.part_checked_said.Tie as tie
+use Rattle.part_answers.proofs.part_checked_said.Statement.{statement}
+use Rattle.part_answers.proofs.part_checked_said.Tie as tie
 
 enum-told : tie.Need-enum-told
 enum-told c = search needs
