@@ -1,9 +1,6 @@
 // The C interface: document 01's calls on numbers and slices. Each returns document 01's number and puts into five lent places
 // how many values there are, then the values in document 01's order; the places behind them stay as they were. A slice is
 // handed over as a pointer and a length. tlve_start is the start number of the long form.
-mod entries;
-
-use crate::entries::push_by;
 use answers::checked_said;
 use answers::counted_said;
 use answers::edited_said;
@@ -22,6 +19,7 @@ use edits::clear_place;
 use edits::set_place;
 use elements::element::State;
 use elements::next::next_element;
+use entries::push_by;
 use findings::optional_ie_order_findings;
 use indexing::index::iei_index;
 use kept::kept_clear;
@@ -69,7 +67,7 @@ ghost use Rattle.definitions.specs.Writing.{writing, writingBy};
 ghost use Rattle.kept.specs.Kept.{usedOf};
 ghost use Rattle.reading.specs.Decodes.{lentOf};
 ghost use Rattle.elements.specs.Nexts.{nextOf};
-ghost use Rattle.nas.specs.Entries.{orderPushBy};
+ghost use Rattle.entries.specs.Entries.{orderPushBy};
 ghost use Rattle.part_answers.specs.Mandated.{MandatorySays};
 ghost use Rattle.answers.specs.Nexts.{stateBy, NextSays};
 ghost use Rattle.answers.specs.Says.{Says, ReadSays, BlockSays, EditSays, WriteSays, RowsWriteSays, FindingSays, checkAnswer, placeAnswer, lengthAnswer};

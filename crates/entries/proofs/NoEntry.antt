@@ -10,7 +10,7 @@ use lib.ListN.{length}
 use Rattle.definitions.specs.Basic.{answer, Used, mostLog}
 use Rattle.definitions.specs.Logs.{Placed, orderPush}
 use Rattle.definitions.proofs.Logs.{past-buffer, past-limit, not-long, asking-long, asking-bad}
-use Rattle.nas.specs.Entries.{placedBy, pushPlaced}
+use Rattle.entries.specs.Entries.{placedBy, pushPlaced}
 
 pub no-entry : (e i : ℕ) → 4 < e → none ≡ placedBy e i
 no-entry zero i h = absurd (omega arith)

@@ -3,10 +3,10 @@
 use Prim.Native.Nat.{ℕ}
 use native.Mathlib.Omega.{arith}
 use mathlib.Core.Path.{ap, sym}
-use Rattle.nas.specs.Entries.{placedBy}
-use Rattle.nas.proofs.NoEntry.{no-entry}
-use Rattle.nas.proofs.entries.entry_of.Statement.{statement}
-use Rattle.nas.proofs.entries.entry_of.Tie as tie
+use Rattle.entries.specs.Entries.{placedBy}
+use Rattle.entries.proofs.NoEntry.{no-entry}
+use Rattle.entries.proofs.entry_of.Statement.{statement}
+use Rattle.entries.proofs.entry_of.Tie as tie
 
 returns : tie.Need-returns
 returns c = sym (ap (λ (e : ℕ). placedBy e (c .before .args .iei)) (c .match .keys1))

@@ -8,7 +8,7 @@ use order::order_push;
 ghost use mathlib.Core.Path.{_≡_};
 ghost use Rattle.kept.specs.Kept.{pushedAs, usedOf};
 ghost use Rattle.order.specs.Order.{frontAs};
-ghost use Rattle.nas.specs.Entries.{placedBy, orderPushBy};
+ghost use Rattle.entries.specs.Entries.{placedBy, orderPushBy};
 
 // 0 is an accepted element with its IEI, 1 to 4 are the others, whatever the IEI; a number over 4 is no entry.
 fn entry_of(entry: u8, iei: u8) -> Front

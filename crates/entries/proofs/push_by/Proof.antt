@@ -5,10 +5,10 @@ use mathlib.Core.Path.{ap, sym, _∙_}
 use Rattle.definitions.specs.Logs.{Logged}
 use Rattle.kept.specs.Kept.{usedOf}
 use Rattle.order.specs.Order.{frontAs}
-use Rattle.nas.proofs.NoEntry.{entry-pushed, none-past, none-long, none-bad}
+use Rattle.entries.proofs.NoEntry.{entry-pushed, none-past, none-long, none-bad}
 use borrow.Author.Needs.{needs}
-use Rattle.nas.proofs.entries.push_by.Statement.{statement}
-use Rattle.nas.proofs.entries.push_by.Tie as tie
+use Rattle.entries.proofs.push_by.Statement.{statement}
+use Rattle.entries.proofs.push_by.Tie as tie
 
 entry-of-requires : tie.Need-entry-of-requires
 entry-of-requires c κs = search needs
