@@ -1,4 +1,3 @@
 -- What the calls of the C interface return.
 pub mod Says
 pub mod Nexts
-pub mod Mandated

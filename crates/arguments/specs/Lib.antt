@@ -1,4 +1,2 @@
--- What a word that is handed to a program means, and a text of hex digits.
+-- What a word that is handed to a program means.
 pub mod Words
-pub mod Hex
-pub mod Steps

@@ -1,8 +1,4 @@
-// What a program is handed and hands back: numbers as words, in decimal, which bin/launch makes of the user's; standard input and
-// output; the status.
-pub mod hex;
-pub mod streams;
-
+// What a program is handed: numbers as words, in decimal, which bin/launch makes of the user's.
 ghost use mathlib.Core.Path.{_≡_};
 ghost use Rattle.arguments.specs.Words.{numberOf, numberAs, digitsFrom};
 

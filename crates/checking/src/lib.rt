@@ -1,5 +1,7 @@
 // Checking an optional part that another program made: one pass up to the first offender, and from there on for a cut alone, since a
 // part that is cut short is refused as such wherever an offender stands. Nothing is lent to be written.
+use checks::Checked;
+use checks::check_and_index;
 use elements::element::Came;
 use elements::element::NO_PLACE;
 use elements::element::came_unknown;
@@ -11,8 +13,6 @@ use numbered::TLVE_START;
 use numbered::load;
 use octets::MOST_OCTETS;
 use order::Placed;
-use rows::check::Checked;
-use rows::check::check_and_index;
 use rows::columns::numbers_at;
 ghost use mathlib.Core.Path.{_≡_};
 ghost use Prim.Native.Nat.{ℕ};

@@ -4,6 +4,7 @@ mod log;
 
 use crate::log::Judged;
 use crate::log::judge;
+use indexing::index::iei_index;
 use kept::MOST_LOG;
 use kept::too_long;
 use logs::order_malformed;
@@ -11,7 +12,6 @@ use octets::part;
 use octets::put_slice;
 use rows::columns::Form;
 use rows::columns::form_at;
-use rows::index::iei_index;
 use values::check::PlaceCheck;
 use values::check::bad_place;
 use values::check::check_place;

@@ -3,12 +3,12 @@ mod walk;
 
 use crate::walk::count_findings;
 use crate::walk::put_findings;
+use checks::Checked;
+use checks::check_and_index;
 use kept::MOST_LOG;
 use kept::too_long;
 use logs::Logs;
 use logs::check_logs;
-use rows::check::Checked;
-use rows::check::check_and_index;
 ghost use Rattle.definitions.specs.Findings.{finding};
 ghost use Rattle.kept.specs.Kept.{usedOf};
 ghost use Rattle.findings.specs.Findings.{Finds, findingIn, notedIn};

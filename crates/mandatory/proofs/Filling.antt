@@ -11,11 +11,11 @@ use Rattle.definitions.specs.Basic.{over, overAt}
 use Rattle.definitions.specs.Mandatory.{MandatoryRow, mandatoryRowAt, mandatoryForm, foundBy}
 use Rattle.definitions.proofs.Lists.{over-none, over-next, length-overAt}
 use Rattle.rows.proofs.Steps.{mandatory-drop}
-use Rattle.mandatory.specs.Founds.{foundAs}
+use Rattle.mandatory_ie.specs.Founds.{foundAs}
 use Rattle.mandatory.specs.Reads.{rowsBy, rowsFrom}
-use Rattle.mandatory.specs.declared.ie.Fault.{Fault}
-use Rattle.mandatory.specs.declared.ie.Found.{Found}
-use Rattle.mandatory.proofs.Finding.{found-within}
+use Rattle.mandatory_ie.specs.declared.Fault.{Fault}
+use Rattle.mandatory_ie.specs.declared.Found.{Found}
+use Rattle.mandatory_ie.proofs.Finding.{found-within}
 
 -- the rows from k on, written from here on, leave what all of them leave
 pub record Filling (t : List MandatoryRow) (part rows₀ : List ℕ) (k at : ℕ) (rows : List ℕ) : Type 0 where

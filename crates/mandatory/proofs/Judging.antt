@@ -11,14 +11,14 @@ use lib.Seq.{drop-drop}
 use Rattle.definitions.specs.Basic.{Answer}
 use Rattle.definitions.specs.Mandatory.{MandatoryRow, mandatoryRowAt, mandatoryForm, foundBy}
 use Rattle.rows.proofs.Steps.{mandatory-drop}
-use Rattle.mandatory.specs.Founds.{foundAs}
+use Rattle.mandatory_ie.specs.Founds.{foundAs}
 use Rattle.mandatory.specs.Notes.{noNotes, notesAs, withFault, Tidy}
 use Rattle.mandatory.specs.Reads.{valuesOf, readAs, Judges, refusesBy, mandatedFor, judgedBy, judgedFrom}
-use Rattle.mandatory.specs.declared.ie.Fault.{Fault}
-use Rattle.mandatory.specs.declared.ie.Found.{Found}
+use Rattle.mandatory_ie.specs.declared.Fault.{Fault}
+use Rattle.mandatory_ie.specs.declared.Found.{Found}
 use Rattle.mandatory.specs.declared.notes.Notes.{Notes}
 use Rattle.mandatory.specs.declared.decode.Mandated.{Mandated}
-use Rattle.mandatory.proofs.Finding.{found-within}
+use Rattle.mandatory_ie.proofs.Finding.{found-within}
 use Rattle.mandatory.proofs.Noting.{tidy-none, notes-none, noted}
 
 -- the rows from k on, judged from here on, give what all of them give

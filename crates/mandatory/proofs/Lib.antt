@@ -1,5 +1,4 @@
 -- Laws of this crate's definitions.
-pub mod Finding
 pub mod Noting
 pub mod Rowing
 pub mod Judging

@@ -9,7 +9,7 @@ use lib.ListN.{take, drop, replicate, length-set}
 use lib.Seq.{take-suc-set, drop-set-lt, drop-drop}
 use Rattle.mandatory.specs.Notes.{note, noNotes, flat, notesAs, withNote, withFault, Tidy}
 use Rattle.mandatory.specs.Reads.{noteOf}
-use Rattle.mandatory.specs.declared.ie.Fault.{Fault}
+use Rattle.mandatory_ie.specs.declared.Fault.{Fault}
 use Rattle.mandatory.specs.declared.notes.Note.{Note}
 use Rattle.mandatory.specs.declared.notes.Notes.{Notes}
 

@@ -10,9 +10,9 @@ use lib.ListN.{drop}
 use Rattle.definitions.specs.Basic.{pick, Answer, answer}
 use Rattle.definitions.specs.Mandatory.{MandatoryRow, mandatoryForm, Found as DefFound, missing, truncated, value, foundBy, faultOf, Rowed, stopped, noted, rowed}
 use Rattle.definitions.proofs.Mandatories.{by-fault, row-missing, row-truncated, row-value}
-use Rattle.mandatory.specs.Founds.{faultAs}
+use Rattle.mandatory_ie.specs.Founds.{faultAs}
 use Rattle.mandatory.specs.Reads.{judgedBy, judgedFrom, rowsBy, rowsFrom}
-use Rattle.mandatory.specs.declared.ie.Found.{Found}
+use Rattle.mandatory_ie.specs.declared.Found.{Found}
 
 abbrev pub saidBy : Option Answer → Answer → Answer
 saidBy none a = a

@@ -1,4 +1,3 @@
 -- What the answers of this crate are by the definitions.
-pub mod Founds
 pub mod Notes
 pub mod Reads

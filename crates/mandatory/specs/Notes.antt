@@ -3,7 +3,7 @@ use Prim.Native.Nat.{ℕ, _+_, _-_, _≤_}
 use mathlib.Core.Path.{_≡_}
 use mathlib.Core.List.{List, [], _∷_}
 use lib.ListN.{length, take, drop, set, replicate}
-use Rattle.mandatory.specs.declared.ie.Fault.{Fault}
+use Rattle.mandatory_ie.specs.declared.Fault.{Fault}
 use Rattle.mandatory.specs.declared.notes.Note.{Note}
 use Rattle.mandatory.specs.declared.notes.Notes.{Notes}
 

@@ -6,10 +6,10 @@ use mathlib.Core.Bool.{Bool, false, not}
 use lib.ListN.{drop}
 use Rattle.definitions.specs.Basic.{pick, Answer, answer}
 use Rattle.definitions.specs.Mandatory.{MandatoryRow, mandatoryForm, foundBy, RowsRead}
-use Rattle.mandatory.specs.Founds.{foundAs}
+use Rattle.mandatory_ie.specs.Founds.{foundAs}
 use Rattle.mandatory.specs.Notes.{notesAs, Tidy}
-use Rattle.mandatory.specs.declared.ie.Fault.{Fault}
-use Rattle.mandatory.specs.declared.ie.Found.{Found}
+use Rattle.mandatory_ie.specs.declared.Fault.{Fault}
+use Rattle.mandatory_ie.specs.declared.Found.{Found}
 use Rattle.mandatory.specs.declared.decode.Mandated.{Mandated}
 use Rattle.mandatory.specs.declared.decode.MandatoryRead.{MandatoryRead}
 

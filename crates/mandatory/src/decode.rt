@@ -1,13 +1,13 @@
 // Reading mandatory rows: first what is wrong with them, then what they leave in the lent rows.
-use crate::ie::Fault;
-use crate::ie::Found;
-use crate::ie::decode_mandatory_ie;
 use crate::notes::Notes;
 use crate::notes::no_notes;
 use crate::notes::with_fault;
+use checks::Checked;
+use checks::check_mandatory_table;
+use mandatory_ie::Fault;
+use mandatory_ie::Found;
+use mandatory_ie::decode_mandatory_ie;
 use octets::MOST_OCTETS;
-use rows::check::Checked;
-use rows::check::check_mandatory_table;
 use rows::columns::mandatory_rows;
 ghost use mathlib.Core.Path.{_≡_};
 ghost use mathlib.Core.Option.{none};

@@ -1,5 +1,5 @@
 // The faults that lenient reading takes note of, at most one a row.
-use crate::ie::Fault;
+use mandatory_ie::Fault;
 ghost use mathlib.Core.Path.{_≡_};
 ghost use Prim.Native.Nat.{_<_};
 ghost use Rattle.mandatory.specs.Notes.{noNotes, withNote, withFault};

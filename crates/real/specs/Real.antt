@@ -4,7 +4,7 @@ use mathlib.Core.List.{List, [], _∷_}
 use mathlib.Core.Option.{Option·getD}
 use Rattle.definitions.specs.Basic.{concat}
 use Rattle.definitions.specs.Tables.{tableOf, mandatoryTableOf}
-use Rattle.rows.specs.Marks.{blank}
+use Rattle.indexing.specs.Marks.{blank}
 
 -- table P
 unfoldable pub index0 : List ℕ

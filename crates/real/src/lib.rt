@@ -1,14 +1,15 @@
 // Table P, and the six real tables of TS 24.501, edition 16.8.0, as constants: their rows after the message type, and the index
 // of each table's IEIs. The words before a row name its element; docs/TABLES.md says where each number is from.
-use rows::check::Checked;
-use rows::check::check_mandatory_table;
-use rows::check::check_table;
+use checks::Checked;
+use checks::check_mandatory_table;
+use checks::check_table;
 use rows::index::Place;
 use rows::index::place_of;
 ghost use mathlib.Core.Path.{_≡_};
 ghost use Rattle.definitions.specs.Rows.{rowsOf, firstBad, placeOf, index};
 ghost use Rattle.definitions.specs.Mandatory.{mandatoryRowsOf, firstBadMandatory};
-ghost use Rattle.rows.specs.Answers.{checkedAs, placeAs};
+ghost use Rattle.rows.specs.Answers.{placeAs};
+ghost use Rattle.checks.specs.Answers.{checkedAs};
 ghost use Rattle.real.specs.Real.{realOf, realMandatoryOf};
 
 // Table P: five places.

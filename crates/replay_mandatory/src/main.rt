@@ -1,7 +1,5 @@
 // Runs the recorded list on standard input through our reading and writing of mandatory rows, and prints how many cases there are of each number,
 // how many answers are the recorded ones in number, values, notes and all lent output, and each case that is not. README.md has the format.
-use answers::mandated_said;
-use answers::wrote_said;
 use mandatory::by::decode_mandatory_ies_by;
 use mandatory::decode::MandatoryRead;
 use mandatory::decode::decode_mandatory_ies;
@@ -11,6 +9,8 @@ use mandatory_writing::by::encode_mandatory_ies_by;
 use mandatory_writing::encode::MandatoryWrote;
 use mandatory_writing::encode::encode_mandatory_ies;
 use octets::part;
+use part_answers::mandated_said;
+use part_answers::wrote_said;
 use recorded::LENT_TABLE;
 use recorded::after;
 use recorded::answer_end;

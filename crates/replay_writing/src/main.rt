@@ -1,13 +1,13 @@
 // Runs the recorded list on standard input through our writing, setting and findings, and prints how many cases there are of each number, how many
 // answers are the recorded ones in number, value and all lent output, and each case that is not. README.md has the format.
 use answers::edited_said;
-use answers::encoded_said;
-use answers::found_said;
 use edits::Edited;
 use edits::set_place;
 use findings::Found;
 use findings::optional_ie_order_findings;
 use octets::part;
+use part_answers::encoded_said;
+use part_answers::found_said;
 use recorded::LENT_TABLE;
 use recorded::after;
 use recorded::answer_end;

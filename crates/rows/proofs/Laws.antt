@@ -1,23 +1,11 @@
 -- Equal values come from equal answers: each map from an answer of this crate to the definitions tells two answers apart.
--- By cases; two constructors are never equal. And what `check_and_index` leaves of a table that passes is its index.
+-- By cases; two constructors are never equal.
 use mathlib.Core.Path.{_≡_, refl}
-use mathlib.Core.List.{List}
-use mathlib.Core.Option.{none}
-use Prim.Native.Nat.{ℕ}
-use Rattle.definitions.specs.Basic.{pick, isNone}
-use Rattle.definitions.specs.Rows.{Row, firstBad, index}
 use Rattle.rows.specs.Forms.{formAs, mandatoryFormAs}
-use Rattle.rows.specs.Answers.{checkedAs, placeAs}
+use Rattle.rows.specs.Answers.{placeAs}
 use Rattle.rows.specs.declared.columns.Form.{Form}
 use Rattle.rows.specs.declared.columns.MandatoryForm.{MandatoryForm}
-use Rattle.rows.specs.declared.check.Checked.{Checked}
 use Rattle.rows.specs.declared.index.Place.{Place}
-
-pub same-checked : (a b : Checked) → checkedAs a ≡ checkedAs b → a ≡ b
-same-checked Checked.Passes Checked.Passes e = refl
-same-checked Checked.Passes (Checked.BadRow k) e = cc
-same-checked (Checked.BadRow j) Checked.Passes e = cc
-same-checked (Checked.BadRow j) (Checked.BadRow k) e = cc
 
 pub same-place : (a b : Place) → placeAs a ≡ placeAs b → a ≡ b
 same-place Place.Nowhere Place.Nowhere e = refl
@@ -69,7 +57,3 @@ same-mandatory-form MandatoryForm.LvE MandatoryForm.HighHalf e = cc
 same-mandatory-form MandatoryForm.LvE (MandatoryForm.Fixed n) e = cc
 same-mandatory-form MandatoryForm.LvE MandatoryForm.Lv e = cc
 same-mandatory-form MandatoryForm.LvE MandatoryForm.LvE e = refl
-
-pub passed-index : (rs : List Row) (entry : List ℕ) {ix : List ℕ} → firstBad rs ≡ none → ix ≡ pick (isNone (firstBad rs)) (index rs) entry → ix ≡ index rs
-unfolding isNone
-passed-index rs entry p e = rw p at e

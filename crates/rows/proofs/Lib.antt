@@ -1,5 +1,4 @@
 -- Laws that proofs cite.
-pub mod Marking
 pub mod Steps
 pub mod Laws
 pub mod WholeRows

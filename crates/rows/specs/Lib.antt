@@ -2,5 +2,4 @@
 pub mod Forms
 pub mod Numbers
 pub mod Indexed
-pub mod Marks
 pub mod Answers

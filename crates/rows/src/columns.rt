@@ -158,7 +158,7 @@ pub fn iei_count(table: &[u32], place: usize) -> usize
 }
 
 // One of the four numbers of a row for its IEIs, listed or not; 0 past the fourth.
-pub(crate) fn slot_at(table: &[u32], place: usize, number: usize) -> u32
+pub fn slot_at(table: &[u32], place: usize, number: usize) -> u32
     ensures { λ r. ⌜ r ≡ getD (rowAt (rowsOf (now (table .entry))) place .slots) number 0 ⌝ }
 {
     if number >= 4 {

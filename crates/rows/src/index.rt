@@ -1,10 +1,10 @@
-// The index of a table: for each IEI the place of the first row that lists it, or 255.
-use crate::columns::places;
-use crate::marks::NO_PLACE;
-use crate::marks::enter_row;
+// An index: for each IEI its place, or 255.
 ghost use mathlib.Core.Path.{_≡_};
-ghost use Rattle.definitions.specs.Rows.{rowsOf, index, placeIn};
+ghost use Rattle.definitions.specs.Rows.{placeIn};
 ghost use Rattle.rows.specs.Answers.{placeAs};
+
+// The entry of an IEI that has no place.
+pub const NO_PLACE: u8 = 255;
 
 pub enum Place {
     At(usize),
@@ -24,18 +24,4 @@ pub fn place_of(index: &[u8], iei: u8) -> Place
         return Place::Nowhere;
     }
     Place::At(place as usize)
-}
-
-// The index of a table, also of one that fails the check: the first row that lists an IEI has it.
-pub fn iei_index(table: &[u32]) -> [u8; 256]
-    ensures { λ r. ⌜ r ≡ index (rowsOf (now (table .entry))) ⌝ }
-{
-    let n = places(table);
-    let mut entries = [NO_PLACE; 256];
-    let mut k = 0;
-    while k < n {
-        enter_row(table, k, &mut entries);
-        k += 1;
-    }
-    entries
 }

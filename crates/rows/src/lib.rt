@@ -1,5 +1,3 @@
-// The rows of a table of information elements: their columns, both checks, and the index of their IEIs.
-pub mod check;
+// The rows of a table of information elements: their columns, and the place of an IEI by an index.
 pub mod columns;
 pub mod index;
-mod marks;

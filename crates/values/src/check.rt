@@ -1,9 +1,9 @@
 // The checks that showing, setting and clearing share: the table, the octets, the rows, and whether the table has the place.
 use crate::row::any_bad;
+use checks::Checked;
+use checks::check_table;
 use octets::MOST_OCTETS;
 use octets::part;
-use rows::check::Checked;
-use rows::check::check_table;
 use rows::columns::places;
 ghost use mathlib.Core.Path.{_≡_};
 ghost use mathlib.Core.Bool.{_||_};

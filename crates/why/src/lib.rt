@@ -1,4 +1,6 @@
 // Why an element of an optional part came as it did: its verdict with its ground.
+use checks::Checked;
+use checks::check_and_index;
 use elements::element::Element;
 use elements::element::Step;
 use elements::element::element_step;
@@ -12,8 +14,6 @@ use octets::MOST_OCTETS;
 use octets::part;
 use order::IgnoredIeReason;
 use order::Placed;
-use rows::check::Checked;
-use rows::check::check_and_index;
 use rows::columns::Numbers;
 use rows::columns::form_of;
 use rows::columns::numbers_at;

@@ -4,10 +4,10 @@ use mathlib.Core.Option.{none}
 use lib.ListN.{length}
 use Rattle.definitions.specs.Rows.{rowsOf, firstBad}
 use Rattle.definitions.proofs.TableLaws.{index-length}
-use Rattle.rows.proofs.Laws.{passed-index}
+use Rattle.checks.proofs.Laws.{passed-index}
 use mathlib.Core.Path.{_≡_, refl, ap, sym, _∙_}
 use Rattle.kept.specs.Kept.{usedOf}
-use Rattle.rows.specs.Answers.{checkedAs}
+use Rattle.checks.specs.Answers.{checkedAs}
 use Rattle.findings.proofs.Finding.{finds-by, refused, bad-table, good-table}
 use borrow.Author.Needs.{needs}
 use Rattle.findings.proofs.optional_ie_order_findings.Statement.{statement}

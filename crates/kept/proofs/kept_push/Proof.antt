@@ -18,15 +18,15 @@ use Rattle.kept.proofs.kept_push.Tie as tie
 
 returns : tie.Need-returns
 unfolding keptPush
-returns c = push-used _ _ _ _ 2 2 (past-buffer 131070 (usedOf (c .before .before .before .args .log .now) (c .before .before .before .args .used)) (omega arith))
+returns c = push-used _ _ _ _ 2 2 (past-buffer 131070 (usedOf (c .before .before .before .args .log .now) (c .before .before .before .args .used)) (c .if1 .taken))
 
 returns-2 : tie.Need-returns-2
 unfolding keptPush
-returns-2 c = push-used _ _ _ _ 2 2 (past-limit 131070 (usedOf (c .before .before .before .before .args .log .now) (c .before .before .before .before .args .used)) (omega arith))
+returns-2 c = push-used _ _ _ _ 2 2 (past-limit 131070 (usedOf (c .before .before .before .before .args .log .now) (c .before .before .before .before .args .used)) (c .if2 .taken))
 
 returns-3 : tie.Need-returns-3
 unfolding keptPush
-returns-3 c = push-large _ _ _ _ 2 2 (large (c .before .before .before .before .before .args .iei) (c .before .before .before .before .before .args .octets .now) (omega arith))
+returns-3 c = push-large _ _ _ _ 2 2 (large (c .before .before .before .before .before .args .iei) (c .before .before .before .before .before .args .octets .now) (c .if3 .taken))
 
 add-n : tie.Need-add-n
 add-n c = search needs
@@ -44,7 +44,7 @@ add-if4 c =
 
 returns-4 : tie.Need-returns-4
 unfolding keptPush
-returns-4 c = let a = c .before .before .before .before .before .before .before .args in push-over _ _ _ _ 2 2 _ (needed (a .iei) (a .octets .now) (c .before .count-len .ensures)) (omega arith)
+returns-4 c = let a = c .before .before .before .before .before .before .before .args in push-over _ _ _ _ 2 2 _ (needed (a .iei) (a .octets .now) (c .before .count-len .ensures)) (c .if4 .taken)
 
 slice-reshare-prefix-walk-kept : tie.Need-slice-reshare-prefix-walk-kept
 slice-reshare-prefix-walk-kept c = search needs
@@ -68,8 +68,8 @@ returns-5 : tie.Need-returns-5
 unfolding keptPush content toldBy foundBy
 returns-5 c =
     let a = c .before .before .before .before .before .before .before .before .before .before .before .before .args in
-    push-full _ _ _ _ 2 2 _ (needed (a .iei) (a .octets .now) (c .before .before .before .before .before .before .count-len .ensures)) (omega arith) (not-large (a .iei) (a .octets .now) (omega arith)) (omega arith)
-    (told-log keptLog 0 _ (ap toldBy (sym (c .before .enum-told .given .1)) ∙ c .before .before .before .walk-kept .ensures) .good) (omega arith)
+    push-full _ _ _ _ 2 2 _ (needed (a .iei) (a .octets .now) (c .before .before .before .before .before .before .count-len .ensures)) (c .before .before .before .before .before .before .before .before .before .if1 .left) (not-large (a .iei) (a .octets .now) (c .before .before .before .before .before .before .before .if3 .left)) (c .before .before .before .before .before .if4 .left)
+    (told-log keptLog 0 _ (ap toldBy (sym (c .before .enum-told .given .1)) ∙ c .before .before .before .walk-kept .ensures) .good) (c .if5 .taken)
 
 sub-put-entry : tie.Need-sub-put-entry
 sub-put-entry c = search needs
@@ -81,7 +81,7 @@ part-put-entry-end : tie.Need-part-put-entry-end
 part-put-entry-end c = search needs
 
 put-entry-requires : tie.Need-put-entry-requires
-put-entry-requires c κs = let a = c .before .before .before .before .before .before .before .before .before .before .before .before .before .args in (omega arith, simp (length-take, length-drop) (omega (arith, needed (a .iei) (a .octets .now) (c .before .before .before .before .before .before .before .count-len .ensures))))
+put-entry-requires c κs = let a = c .before .before .before .before .before .before .before .before .before .before .before .before .before .args in (c .before .before .before .before .before .before .before .before .if3 .left, simp (length-take, length-drop) (omega (arith, needed (a .iei) (a .octets .now) (c .before .before .before .before .before .before .before .count-len .ensures))))
 
 add-t14 : tie.Need-add-t14
 add-t14 c = search needs
@@ -96,9 +96,9 @@ returns-6 : tie.Need-returns-6
 unfolding keptPush content toldBy foundBy
 returns-6 c =
     let a = c .before .before .before .before .before .before .before .before .before .before .before .before .before .before .before .before .args in
-    let p = push-done (usedOf (a .log .now) (a .used)) (keptEntry (a .iei ∷ a .octets .now)) _ _ 2 2 _ (needed (a .iei) (a .octets .now) (c .before .before .before .before .before .before .before .before .before .before .count-len .ensures)) (omega arith) (not-large (a .iei) (a .octets .now) (omega arith)) (omega arith)
-    (told-log keptLog 0 _ (ap toldBy (sym (c .before .before .before .before .before .enum-told .given .1)) ∙ c .before .before .before .before .before .before .before .walk-kept .ensures) .good) (omega arith) in
-    (p .0, rw (c .before .before .put-entry .ensures) (lent-over (a .used) (keptEntry (a .iei ∷ a .octets .now)) (a .log .now) (omega arith)) ∙ p .1)
+    let p = push-done (usedOf (a .log .now) (a .used)) (keptEntry (a .iei ∷ a .octets .now)) _ _ 2 2 _ (needed (a .iei) (a .octets .now) (c .before .before .before .before .before .before .before .before .before .before .count-len .ensures)) (c .before .before .before .before .before .before .before .before .before .before .before .before .before .if1 .left) (not-large (a .iei) (a .octets .now) (c .before .before .before .before .before .before .before .before .before .before .before .if3 .left)) (c .before .before .before .before .before .before .before .before .before .if4 .left)
+    (told-log keptLog 0 _ (ap toldBy (sym (c .before .before .before .before .before .enum-told .given .1)) ∙ c .before .before .before .before .before .before .before .walk-kept .ensures) .good) (c .before .before .before .before .if5 .left) in
+    (p .0, rw (c .before .before .put-entry .ensures) (lent-over (a .used) (keptEntry (a .iei ∷ a .octets .now)) (a .log .now) (c .before .before .before .before .before .before .before .before .before .before .before .before .before .if1 .left)) ∙ p .1)
 
 same-length-3 : tie.Need-same-length-3
 same-length-3 c = search needs
@@ -107,7 +107,7 @@ returns-7 : tie.Need-returns-7
 unfolding keptPush content toldBy foundBy
 returns-7 c =
     let a = c .before .before .before .before .before .before .before .before .before .before .before .args in
-    push-bad _ _ _ _ 2 2 _ (needed (a .iei) (a .octets .now) (c .before .before .before .before .before .count-len .ensures)) (omega arith) (not-large (a .iei) (a .octets .now) (omega arith)) (omega arith)
+    push-bad _ _ _ _ 2 2 _ (needed (a .iei) (a .octets .now) (c .before .before .before .before .before .count-len .ensures)) (c .before .before .before .before .before .before .before .before .if1 .left) (not-large (a .iei) (a .octets .now) (c .before .before .before .before .before .before .if3 .left)) (c .before .before .before .before .if4 .left)
     (told-bad keptLog 0 _ (ap toldBy (sym (c .enum-told2 .given .1)) ∙ c .before .before .walk-kept .ensures))
 
 pub kept-push-spec : {M : Type 1} → statement M

@@ -1,6 +1,6 @@
 -- `nas_read_mandatory` returns the answer of a reading of mandatory rows, with what that leaves in the lent rows and notes.
 -- One call and one conversion: the answer of the call is that of the definition.
-use Rattle.answers.proofs.Notes.{mandatory-by}
+use Rattle.part_answers.proofs.Notes.{mandatory-by}
 use borrow.Author.Needs.{needs}
 use Rattle.nas.proofs.nas_read_mandatory.Statement.{statement}
 use Rattle.nas.proofs.nas_read_mandatory.Tie as tie

@@ -1,6 +1,6 @@
 -- `nas_read_mandatory_by` returns the answer of a reading of mandatory rows by table number, with what that leaves in the lent rows and notes.
 -- One call and one conversion: the answer of the call is that of the definition.
-use Rattle.answers.proofs.Notes.{mandatory-by}
+use Rattle.part_answers.proofs.Notes.{mandatory-by}
 use borrow.Author.Needs.{needs}
 use Rattle.nas.proofs.nas_read_mandatory_by.Statement.{statement}
 use Rattle.nas.proofs.nas_read_mandatory_by.Tie as tie

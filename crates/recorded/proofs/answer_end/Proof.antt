@@ -1,5 +1,9 @@
 -- `answer_end` is behind the values, of which the second octet says how many there are.
 -- Each number is what its call ensures.
+use Prim.Native.Nat.{_+_, _*_}
+use mathlib.Core.Path.{ap, _∙_}
+use lib.ListN.{getD}
+use Rattle.recorded.specs.Format.{after}
 use borrow.Author.Needs.{needs}
 use Rattle.recorded.proofs.answer_end.Statement.{statement}
 use Rattle.recorded.proofs.answer_end.Tie as tie
@@ -23,7 +27,9 @@ after-requires-2 : tie.Need-after-requires-2
 after-requires-2 c κs = search needs
 
 returns : tie.Need-returns
-returns c = cc
+returns c =
+    let a = c .before .before .before .before .args in
+    c .after2 .ensures ∙ ap (λ x. after (a .at) (2 + 8 * x)) (c .before .octet .ensures ∙ ap (λ k. getD (a .list .now) k 0) (c .before .before .after .ensures))
 
 pub answer-end-spec : {M : Type 1} → statement M
 answer-end-spec =

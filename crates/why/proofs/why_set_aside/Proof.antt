@@ -3,8 +3,8 @@
 use mathlib.Core.Path.{_≡_, ap, sym, _∙_}
 use mathlib.Core.Option.{none}
 use Rattle.definitions.specs.Rows.{rowsOf, firstBad}
-use Rattle.rows.specs.Answers.{checkedAs}
-use Rattle.rows.proofs.Laws.{passed-index}
+use Rattle.checks.specs.Answers.{checkedAs}
+use Rattle.checks.proofs.Laws.{passed-index}
 use Rattle.rows.proofs.Indexed.{indexed}
 use Rattle.why.proofs.Answers.{explaining-bad}
 use borrow.Author.Needs.{needs}

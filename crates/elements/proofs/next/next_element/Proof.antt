@@ -4,8 +4,8 @@ use Prim.Native.Nat.{ℕ}
 use mathlib.Core.Path.{_≡_, ap, sym, _∙_}
 use mathlib.Core.Option.{Option, none}
 use Rattle.definitions.specs.Rows.{rowsOf, firstBad}
-use Rattle.rows.specs.Answers.{checkedAs}
-use Rattle.rows.proofs.Laws.{passed-index}
+use Rattle.checks.specs.Answers.{checkedAs}
+use Rattle.checks.proofs.Laws.{passed-index}
 use Rattle.elements.specs.Nexts.{nextOf, nextBy, nextFrom}
 use Rattle.rows.proofs.Indexed.{indexed}
 use borrow.Author.Needs.{needs}

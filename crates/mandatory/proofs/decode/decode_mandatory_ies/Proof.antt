@@ -1,7 +1,7 @@
 -- `decode_mandatory_ies` checks the table first.
 -- The rest is `decode_checked`.
 use mathlib.Core.Path.{ap, sym, _∙_}
-use Rattle.rows.specs.Answers.{checkedAs}
+use Rattle.checks.specs.Answers.{checkedAs}
 use Rattle.mandatory.proofs.Checks.{read-bad}
 use borrow.Author.Needs.{needs}
 use Rattle.mandatory.proofs.decode.decode_mandatory_ies.Statement.{statement}

@@ -6,7 +6,7 @@ use mathlib.Core.Path.{_≡_, sym, _∙_}
 use lib.ListN.{length, drop}
 use Rattle.definitions.specs.Mandatory.{mandatoryRowsOf, mandatoryRowAt, mandatoryForm, foundBy}
 use Rattle.definitions.proofs.Lists.{to-end}
-use Rattle.mandatory.specs.Founds.{foundAs}
+use Rattle.mandatory_ie.specs.Founds.{foundAs}
 use Rattle.mandatory.proofs.Filling.{Filling, filling, filled-all, filled-missing, filled-truncated, small, filled-on}
 use borrow.Author.Needs.{needs}
 use Rattle.mandatory.proofs.decode.fill.Statement.{statement}

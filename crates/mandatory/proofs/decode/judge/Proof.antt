@@ -6,7 +6,7 @@ use mathlib.Core.Path.{_≡_, sym, _∙_}
 use lib.ListN.{length, drop}
 use Rattle.definitions.specs.Mandatory.{mandatoryRowsOf, mandatoryRowAt, mandatoryForm, foundBy}
 use Rattle.definitions.proofs.Lists.{to-end}
-use Rattle.mandatory.specs.Founds.{foundAs}
+use Rattle.mandatory_ie.specs.Founds.{foundAs}
 use Rattle.mandatory.specs.Notes.{withFault}
 use Rattle.mandatory.proofs.Judging.{Judging, judging, judged-all, judged-missing, judged-truncated, judged-refused, judged-on}
 use borrow.Author.Needs.{needs}

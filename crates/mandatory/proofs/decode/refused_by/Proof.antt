@@ -2,7 +2,7 @@
 -- Each arm names it.
 use mathlib.Core.Path.{ap, sym}
 use Rattle.mandatory.specs.Reads.{mandatedFor}
-use Rattle.mandatory.specs.declared.ie.Fault.{Fault}
+use Rattle.mandatory_ie.specs.declared.Fault.{Fault}
 use borrow.Author.Needs.{needs}
 use Rattle.mandatory.proofs.decode.refused_by.Statement.{statement}
 use Rattle.mandatory.proofs.decode.refused_by.Tie as tie

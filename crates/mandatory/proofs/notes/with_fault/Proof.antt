@@ -2,7 +2,7 @@
 -- Each arm names it.
 use mathlib.Core.Path.{ap, sym, _∙_}
 use Rattle.mandatory.specs.Notes.{withFault}
-use Rattle.mandatory.specs.declared.ie.Fault.{Fault}
+use Rattle.mandatory_ie.specs.declared.Fault.{Fault}
 use borrow.Author.Needs.{needs}
 use Rattle.mandatory.proofs.notes.with_fault.Statement.{statement}
 use Rattle.mandatory.proofs.notes.with_fault.Tie as tie

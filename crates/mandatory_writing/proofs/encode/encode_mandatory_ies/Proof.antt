@@ -2,7 +2,7 @@
 -- The rest is `encode_checked`.
 use mathlib.Core.Path.{ap, sym, _∙_}
 use Rattle.kept.specs.Kept.{usedOf}
-use Rattle.rows.specs.Answers.{checkedAs}
+use Rattle.checks.specs.Answers.{checkedAs}
 use Rattle.mandatory_writing.proofs.Checks.{writing-table}
 use borrow.Author.Needs.{needs}
 use Rattle.mandatory_writing.proofs.encode.encode_mandatory_ies.Statement.{statement}

@@ -6,8 +6,8 @@ use Prim.Native.Nat.{ℕ}
 use Rattle.definitions.specs.Rows.{rowsOf, firstBad}
 use Rattle.definitions.proofs.Readings.{read-bad}
 use Rattle.definitions.proofs.Blocks.{keptUse}
-use Rattle.rows.specs.Answers.{checkedAs}
-use Rattle.rows.proofs.Laws.{passed-index}
+use Rattle.checks.specs.Answers.{checkedAs}
+use Rattle.checks.proofs.Laws.{passed-index}
 use Rattle.definitions.specs.Block.{twoParts}
 use Rattle.reading.proofs.InBlock.{block-refused}
 use Rattle.rows.proofs.Indexed.{indexed}

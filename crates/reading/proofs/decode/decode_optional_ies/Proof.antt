@@ -4,8 +4,8 @@ use mathlib.Core.Path.{_≡_, refl, ap, sym, _∙_}
 use mathlib.Core.Option.{none}
 use Rattle.definitions.specs.Rows.{rowsOf, firstBad}
 use Rattle.definitions.proofs.Readings.{read-bad}
-use Rattle.rows.specs.Answers.{checkedAs}
-use Rattle.rows.proofs.Laws.{passed-index}
+use Rattle.checks.specs.Answers.{checkedAs}
+use Rattle.checks.proofs.Laws.{passed-index}
 use Rattle.reading.specs.Decodes.{lentOf}
 use Rattle.reading.proofs.Decoding.{refused}
 use Rattle.rows.proofs.Indexed.{indexed}

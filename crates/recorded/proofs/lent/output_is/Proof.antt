@@ -2,12 +2,12 @@
 -- The measure is what is left.
 use Prim.Native.Nat.{ℕ, _+_, _-_}
 use native.Mathlib.Omega.{arith}
-use mathlib.Core.Path.{_≡_, ap, _∙_}
+use mathlib.Core.Path.{_≡_, ap, sym, _∙_}
 use mathlib.Core.List.{List}
-use lib.Dec.{ltb}
-use lib.ListN.{length}
+use lib.Dec.{ltb, leb}
+use lib.ListN.{length, getD}
 use Rattle.definitions.specs.Basic.{pick}
-use Rattle.recorded.specs.Format.{after, stringLength, octetIn}
+use Rattle.recorded.specs.Format.{after, numberFrom, repeatAt, stringLength, octetIn}
 use Rattle.recorded.specs.Lent.{lentOctet, octetsAre}
 use Rattle.recorded.proofs.Laws.{after-after, Alike, alike-none, alike-step, alike-all, unlike}
 use borrow.Author.Needs.{needs}
@@ -17,6 +17,10 @@ use Rattle.recorded.proofs.lent.output_is.Tie as tie
 -- the octet that is due at i
 abbrev due : ℕ → List ℕ → ℕ → ℕ
 due at list i = pick (ltb i (stringLength at list)) (octetIn at list i) lentOctet
+
+-- it is what the calls of a turn answer
+due-is : (at : ℕ) (list : List ℕ) (i : ℕ) {n len r k x p y o : ℕ} → n ≡ numberFrom 2 at list → len ≡ stringLength at list → r ≡ repeatAt at list → k ≡ after r 2 → x ≡ getD list k 0 → p ≡ after at (2 + i) → y ≡ pick (ltb i n) (getD list p 0) x → o ≡ pick (ltb i len) y lentOctet → o ≡ due at list i
+due-is at list i a b d e f g h j = cc
 
 abbrev Inv-loop : tie.InvT-loop
 Inv-loop list at output n len x p₀ i₀ p i = (p ≡ after at (2 + i)) × Alike (due at list) output i
@@ -59,8 +63,9 @@ unfolding octetsAre
 returns c =
     let a = c .before .before .before .before .before .before .before .before .before .before .before .before .before .before .args in
     let l = c .before .before .before .before .before .loop in
-    let e : c .before .lent-or .result ≡ due (a .at) (a .list .now) (l .i) = cc in
-    rw (unlike (due (a .at) (a .list .now)) (a .output .now) (l .i) (omega arith) (λ q. c .if1 .taken (cc)))
+    let o = c .before .before .before .before .before .before .before in
+    let e : c .before .lent-or .result ≡ due (a .at) (a .list .now) (l .i) = due-is (a .at) (a .list .now) (l .i) (o .before .before .before .before .two .ensures .0) (o .before .before .before .string-len .ensures) (o .before .before .repeat-at .ensures) (o .before .after .ensures) (o .octet .ensures) (l .inv .0) (c .before .before .before .octet-or .ensures) (c .before .lent-or .ensures) in
+    rw (unlike (due (a .at) (a .list .now)) (a .output .now) (l .i) (c .before .before .before .before .loop-test .taken) (λ q. c .if1 .taken (q ∙ sym e)))
 
 after-requires-3 : tie.Need-after-requires-3 Inv-loop μ-loop
 after-requires-3 c κs = search needs
@@ -75,15 +80,16 @@ loop-again : tie.Need-loop-again Inv-loop μ-loop
 loop-again c =
     let a = c .before .before .before .before .before .before .before .before .before .before .before .before .before .before .before .args in
     let l = c .before .before .before .before .before .before .loop in
-    let e : c .before .before .lent-or .result ≡ due (a .at) (a .list .now) (l .i) = cc in
-    (c .after3 .ensures ∙ ap (λ k. after k 1) (l .inv .0) ∙ after-after (a .at) (2 + l .i) 1 (2 + (l .i + 1)) (omega arith), alike-step (due (a .at) (a .list .now)) (a .output .now) (l .i) (l .inv .1) (cc))
+    let o = c .before .before .before .before .before .before .before .before in
+    let e : c .before .before .lent-or .result ≡ due (a .at) (a .list .now) (l .i) = due-is (a .at) (a .list .now) (l .i) (o .before .before .before .before .two .ensures .0) (o .before .before .before .string-len .ensures) (o .before .before .repeat-at .ensures) (o .before .after .ensures) (o .octet .ensures) (l .inv .0) (c .before .before .before .before .octet-or .ensures) (c .before .before .lent-or .ensures) in
+    (c .after3 .ensures ∙ ap (λ k. after k 1) (l .inv .0) ∙ after-after (a .at) (2 + l .i) 1 (2 + (l .i + 1)) (omega arith), alike-step (due (a .at) (a .list .now)) (a .output .now) (l .i) (l .inv .1) (c .before .if1 .left ∙ e))
 
 returns-2 : tie.Need-returns-2 Inv-loop μ-loop
 unfolding octetsAre
 returns-2 c =
     let a = c .before .before .before .before .before .before .before .before .before .before .args in
     let l = c .before .loop in
-    rw (alike-all (due (a .at) (a .list .now)) (a .output .now) (l .i) (omega arith) (l .inv .1)) (cc)
+    rw (alike-all (due (a .at) (a .list .now)) (a .output .now) (l .i) (c .loop-test .left) (l .inv .1)) (ap (λ k. leb k (length (a .output .now))) (c .before .before .before .before .before .before .string-len .ensures))
 
 pub output-is-spec : {M : Type 1} → statement M
 output-is-spec =

@@ -4,7 +4,7 @@ use mathlib.Core.Path.{ap, sym, _∙_}
 use mathlib.Core.Bool.{_||_}
 use Rattle.definitions.specs.Rows.{rowsOf}
 use Rattle.kept.specs.Kept.{usedOf}
-use Rattle.rows.specs.Answers.{checkedAs}
+use Rattle.checks.specs.Answers.{checkedAs}
 use Rattle.values.specs.Checks.{longWith}
 use Rattle.values.proofs.Checking.{check-table}
 use borrow.Author.Needs.{needs}

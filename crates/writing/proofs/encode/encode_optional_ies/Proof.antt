@@ -7,8 +7,8 @@ use Rattle.definitions.specs.Rows.{rowsOf, firstBad}
 use Rattle.definitions.proofs.TableLaws.{index-length}
 use Rattle.definitions.proofs.WriteLaws.{write-bad}
 use Rattle.kept.specs.Kept.{usedOf}
-use Rattle.rows.specs.Answers.{checkedAs}
-use Rattle.rows.proofs.Laws.{passed-index}
+use Rattle.checks.specs.Answers.{checkedAs}
+use Rattle.checks.proofs.Laws.{passed-index}
 use Rattle.writing.proofs.Encoding.{refused}
 use borrow.Author.Needs.{needs}
 use Rattle.writing.proofs.encode.encode_optional_ies.Statement.{statement}

@@ -1,0 +1,2 @@
+-- What pushing an entry by its number is.
+pub mod Entries

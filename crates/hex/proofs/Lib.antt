@@ -1,0 +1,3 @@
+-- Laws that proofs cite, and examples.
+pub mod HexLaws
+pub mod HexExamples

@@ -1,0 +1,2 @@
+-- What entering IEIs in an index does.
+pub mod Marks

@@ -1,0 +1,3 @@
+// Entering the IEIs of rows in an index, for the check of a table and for its index.
+pub mod index;
+pub mod marks;

@@ -1,0 +1,2 @@
+-- What the answer of this crate is by the definitions.
+pub mod Founds

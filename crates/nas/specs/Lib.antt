@@ -1,2 +1,0 @@
--- What the calls of the C interface take.
-pub mod Entries

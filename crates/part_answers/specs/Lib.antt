@@ -1,0 +1,2 @@
+-- What reading mandatory rows returns through the C interface.
+pub mod Mandated
