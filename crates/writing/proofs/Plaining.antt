@@ -5,7 +5,7 @@ use native.Mathlib.Omega.{arith}
 use mathlib.Core.Path.{_≡_, refl, ap, ap₂, sym, _∙_}
 use mathlib.Core.List.{List, [], _∷_, append-nil}
 use mathlib.Core.Bool.{Bool, true, false, _||_}
-use mathlib.Core.Option.{none, some}
+use mathlib.Core.Option.{none}
 use borrow.Author.Tests.{eq-eqb, ne-eqb}
 use lib.ListN.{length, take}
 use lib.Seq.{take-at}
@@ -15,7 +15,7 @@ use Rattle.definitions.specs.Rows.{Form, half, fixed, tlv, tlv-e, rowsOf, rowAt
 use Rattle.definitions.specs.Elements.{including}
 use Rattle.definitions.specs.Logs.{orderListF, orderList, keptListF, keptList, orEmpty}
 use Rattle.definitions.specs.Values.{valueAt, present, goodValue, unlike, octetsAt, fits, unfitAt}
-use Rattle.definitions.specs.Writing.{Filled, encoded, elementAt, logged, firsts, walked, written, writing}
+use Rattle.definitions.specs.Writing.{Filled, encoded, elementAt, logged, walked, written, writing}
 use Rattle.definitions.proofs.BitLaws.{bit-including}
 use Rattle.definitions.proofs.RowLaws.{Bears}
 use Rattle.definitions.proofs.TableLaws.{first-bears}
@@ -31,13 +31,12 @@ use Rattle.values.specs.declared.row.ValueRow.{ValueRow}
 use Rattle.agreement.specs.Agreed.{apartBy}
 use Rattle.agreement.proofs.Agreeing.{no-bit, agreeing-begun}
 use Rattle.writing.specs.Puts.{Writes, PutAt}
-use Rattle.writing.specs.Walks.{filledOf, addedIn, addedOctets, leftOf}
-use Rattle.writing.specs.Sizes.{mostIe, placeLength, addedTo, wrongAt, Tells, SurveyedBy}
+use Rattle.writing.specs.Walks.{filledOf, addedOctets, leftOf}
+use Rattle.writing.specs.Sizes.{mostIe, placeLength, addedTo, wrongAt, Tells}
 use Rattle.writing.specs.Plains.{PutPlain, Plained, Copied, FoundBy, CopiedBy, PlainBy, UnloggedBy}
 use Rattle.writing.specs.Encodes.{Encodes, usedUp, Limited}
 use Rattle.writing.specs.declared.encode.Encoded.{Encoded}
 use Rattle.writing.specs.declared.plain.Plain.{Plain}
-use Rattle.writing.specs.declared.sizes.Surveyed.{Surveyed}
 use Rattle.writing.specs.declared.sizes.Tally.{Tally}
 use Rattle.writing.proofs.Places.{form-there, absent, not-present, unfit-there}
 use Rattle.writing.proofs.Putting.{piece-there, writes-fit, put-nothing, bears-octet}

@@ -28,7 +28,7 @@ abbrev pub PlainAt : Filled → ℕ → ℕ → List ℕ → Plain → List ℕ 
 PlainAt m k at before (Plain.At next) after = PutPlain m k at before next after
 PlainAt m k at before Plain.Not after = Unit
 
--- all places: what a look at them says of the empty log, and their elements at the front of a buffer
+-- all places: what a look at them says beside an empty log, and their elements at the front of a buffer
 pub record Plained (m : Filled) (n : ℕ) (before after : List ℕ) : Type 0 where
   pub tally : Tally
   pub surveyed : SurveyedBy m 0 (Surveyed.Added tally)

@@ -141,7 +141,7 @@ fn encode_logged<'a>(
     }
 }
 
-// The same; without a logged element and a kept one in one pass, where that does.
+// The same; where both logs are empty in one pass, if that reaches the end.
 fn encode_used<'a>(
     table: &[u32],
     index: &[u8],

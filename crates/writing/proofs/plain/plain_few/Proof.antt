@@ -1,4 +1,4 @@
--- `plain_few` copies out what the pass found among 128 zeros; where the pass gave up, or there is no room, nothing is copied.
+-- `plain_few` copies out what the pass put into 128 zeros; where the pass gave up, or there is no room, nothing is copied.
 -- What it found stands in the output as it stood in the array.
 use Rattle.writing.specs.Walks.{filledOf}
 use Rattle.writing.proofs.Plaining.{copied-by}

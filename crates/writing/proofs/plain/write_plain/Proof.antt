@@ -1,5 +1,5 @@
 -- `write_plain` gives up where a log has an octet, and else takes the array by how many places there are.
--- Either way the answer is the array's.
+-- Where it gives up the output is as it was; else the answer is that of the pass.
 use Rattle.writing.specs.Walks.{filledOf}
 use Rattle.writing.proofs.Plaining.{unlogged-by}
 use borrow.Author.Needs.{needs}
