@@ -12,11 +12,9 @@ use lib.Seq.{take-at}
 use lib.Dec.{eqb}
 use Rattle.definitions.specs.Basic.{bit, among, concat, over, overAt}
 use Rattle.definitions.specs.Rows.{Form, half, fixed, tlv, tlv-e, rowsOf, rowAt, form, formOf, firstIei, firstBad}
-use Rattle.definitions.specs.Elements.{including}
 use Rattle.definitions.specs.Logs.{orderListF, orderList, keptListF, keptList, orEmpty}
 use Rattle.definitions.specs.Values.{valueAt, present, goodValue, unlike, octetsAt, fits, unfitAt}
 use Rattle.definitions.specs.Writing.{Filled, encoded, elementAt, logged, walked, written, writing}
-use Rattle.definitions.proofs.BitLaws.{bit-including}
 use Rattle.definitions.proofs.RowLaws.{Bears}
 use Rattle.definitions.proofs.TableLaws.{first-bears}
 use Rattle.definitions.proofs.Lists.{over-lent, over-none, length-over}
@@ -33,14 +31,14 @@ use Rattle.agreement.proofs.Agreeing.{no-bit, agreeing-begun}
 use Rattle.writing.specs.Puts.{Writes, PutAt}
 use Rattle.writing.specs.Walks.{filledOf, addedOctets, leftOf}
 use Rattle.writing.specs.Sizes.{mostIe, placeLength, addedTo, wrongAt, Tells}
-use Rattle.writing.specs.Plains.{PutPlain, Plained, Copied, FoundBy, CopiedBy, PlainBy, UnloggedBy}
+use Rattle.writing.specs.Plains.{PutPlain, Plained, FoundBy, CopiedBy, PlainBy, UnloggedBy}
 use Rattle.writing.specs.Encodes.{Encodes, usedUp, Limited}
 use Rattle.writing.specs.declared.encode.Encoded.{Encoded}
 use Rattle.writing.specs.declared.plain.Plain.{Plain}
 use Rattle.writing.specs.declared.sizes.Tally.{Tally}
 use Rattle.writing.proofs.Places.{form-there, absent, not-present, unfit-there}
 use Rattle.writing.proofs.Putting.{piece-there, writes-fit, put-nothing, bears-octet}
-use Rattle.writing.proofs.Tallying.{any-iei, set-with}
+use Rattle.writing.proofs.Tallying.{any-iei, bits-with}
 use Rattle.writing.proofs.Cursor.{added-more, added-end, same-octets, piece-added, piece-not}
 use Rattle.writing.proofs.Surveying.{Surveying, surveying-begun, surveying-ended, surveying-absent, surveying-step}
 use Rattle.writing.proofs.Encoding.{needed, all-left, wrong-rows, done}
@@ -153,8 +151,7 @@ module _ (m : Filled) (before : List ℕ) (short : length before ≤ mostIe) (fe
           let long : length element ≡ j = any-iei m k (firstIei (m .table) k) in
           let u : Tally = record { octets = l .tally .octets + j; seen = seenOf (includingPlace k (setOf (l .tally .seen))) } in
           let u-is : u ≡ addedTo 0 k j (l .tally) = rw (no-bit k) refl in
-          let set-is : setOf (u .seen) ≡ including k (setOf (l .tally .seen)) = set-with (l .tally .seen) k low refl in
-          let bits : (i : ℕ) → bit i (setOf (u .seen)) ≡ (eqb i k || bit i (setOf (l .tally .seen))) = λ i. ap (bit i) set-is ∙ bit-including i k (setOf (l .tally .seen)) in
+          let bits : (i : ℕ) → bit i (setOf (u .seen)) ≡ (eqb i k || bit i (setOf (l .tally .seen))) = bits-with (l .tally .seen) k low in
           let same : x ≡ addedOctets m (setOf (u .seen)) 0 k = same-octets m (setOf (l .tally .seen)) (setOf (u .seen)) k (λ i b. sym (bits i ∙ rw (ne-eqb i k (λ z. omega arith)))) in
           let here : bit k (setOf (u .seen)) ≡ true = bits k ∙ rw (eq-eqb k k refl) in
           let at-end : at ≡ length x = l .at-is ∙ l .looked .sum in

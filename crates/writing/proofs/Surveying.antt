@@ -9,11 +9,9 @@ use mathlib.Core.Option.{none, some}
 use lib.ListN.{length, length-append}
 use lib.Dec.{eqb, ltb}
 use Rattle.definitions.specs.Basic.{pick, bit, isNone}
-use Rattle.definitions.specs.Elements.{including}
 use Rattle.definitions.specs.Rows.{firstIei}
 use Rattle.definitions.specs.Values.{valueAt, present, firstFrom, unfitAt}
 use Rattle.definitions.specs.Writing.{Filled, firsts, unfit}
-use Rattle.definitions.proofs.BitLaws.{bit-including}
 use Rattle.seen.specs.Seen.{setOf, seenOf, includingPlace}
 use Rattle.values.proofs.Showing.{first-here, first-further, first-over}
 use Rattle.agreement.proofs.Agreeing.{no-bit}
@@ -22,7 +20,7 @@ use Rattle.writing.specs.Sizes.{mostIe, addedTo, wrongAt, LookedAt, Surv
 use Rattle.writing.specs.declared.sizes.Looked.{Looked}
 use Rattle.writing.specs.declared.sizes.Surveyed.{Surveyed}
 use Rattle.writing.specs.declared.sizes.Tally.{Tally}
-use Rattle.writing.proofs.Tallying.{any-iei, set-with}
+use Rattle.writing.proofs.Tallying.{any-iei, bits-with}
 use Rattle.writing.proofs.Cursor.{added-more, same-octets, piece-added, piece-not}
 
 module _ (m : Filled) (set : ℕ) where
@@ -111,13 +109,10 @@ module _ (m : Filled) (set : ℕ) where
           with-it : Tally
           with-it = record { octets = t .octets + l; seen = seenOf (includingPlace k (setOf (t .seen))) }
 
-          is : setOf (with-it .seen) ≡ including k (setOf (t .seen))
-          is = set-with (t .seen) k low refl
-
           by : (b : Bool) → bit k set ≡ b → Surveying (k + 1) (pick b t with-it)
           by true e = passed (a .0) (a .1) (rw (a .2, e))
           by false e =
-              let b : (j : ℕ) → bit j (setOf (with-it .seen)) ≡ (eqb j k || bit j (setOf (t .seen))) = λ j. ap (bit j) is ∙ bit-including j k (setOf (t .seen)) in
+              let b : (j : ℕ) → bit j (setOf (with-it .seen)) ≡ (eqb j k || bit j (setOf (t .seen))) = bits-with (t .seen) k low in
               let y : bit k (setOf (with-it .seen)) ≡ true = b k ∙ rw (eq-eqb k k refl) in
               let p : l ≡ length (addedPiece m (setOf (with-it .seen)) k) = a .3 ∙ sym (ap length (piece-added m (setOf (with-it .seen)) k y) ∙ any-iei m k (firstIei (m .table) k)) in
               stepped (a .0) (a .1) with-it (λ j i. b j ∙ rw (ne-eqb j k i)) (y ∙ sym (rw (a .2, e))) (ap (λ (j : ℕ). t .octets + j) p) (omega (arith, a .4))

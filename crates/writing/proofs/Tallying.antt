@@ -48,6 +48,10 @@ pub set-with : (s : Seen) (k : ℕ) {r : Seen} → k < 128 → r ≡ seenOf (inc
 unfolding includingPlace
 set-with s k h e = ap setOf e ∙ set-of _ ∙ rw (lt-ltb k 128 h)
 
+-- and its bits
+pub bits-with : (s : Seen) (k : ℕ) → k < 128 → (j : ℕ) → bit j (setOf (seenOf (includingPlace k (setOf s)))) ≡ (eqb j k || bit j (setOf s))
+bits-with s k h j = ap (bit j) (set-with s k h refl) ∙ bit-including j k (setOf s)
+
 module _ (m : Filled) where
   -- an element is as long under one IEI as under another
   pub any-iei : (k iei : ℕ) → length (elementAt m k iei) ≡ placeLength m k
