@@ -7,16 +7,17 @@ use mathlib.Core.Path.{_≡_, refl, ap, sym, _∙_}
 use mathlib.Core.List.{List}
 use mathlib.Core.Bool.{Bool, true, false, not}
 use mathlib.Core.Option.{Option, none, some, Option·getD}
-use lib.Dec.{eqb}
+use lib.Dec.{eqb, ltb}
 use lib.ListN.{length, getD, take, set}
 use lib.Seq.{take-all, take-suc-set}
 use borrow.Author.Tests.{eqb-true, eqb-false, eq-eqb, ne-eqb}
+use Rattle.definitions.specs.Basic.{pick}
 use Rattle.definitions.proofs.Checks.{none-of, one-of}
 use Rattle.octets.specs.Answers.{pairOf, fourOf}
 use Rattle.octets.specs.declared.Cursor.{Cursor}
 use Rattle.octets.specs.declared.Pair.{Pair}
 use Rattle.octets.specs.declared.Four.{Four}
-use Rattle.recorded.specs.Format.{after, first}
+use Rattle.recorded.specs.Format.{after, numberFrom, repeatAt, octetIn, first}
 use Rattle.recorded.specs.Lent.{differs}
 
 pub pair-is : (at : ℕ) (o : Option ℕ) {n : ℕ} {k : Cursor} → Pair.Is n k ≡ pairOf at o → n ≡ Option·getD o 0
@@ -75,3 +76,7 @@ module _ (f : ℕ → ℕ) (s : List ℕ) where
   -- one that is another
   pub unlike : (i : ℕ) → i < length s → (getD s i 0 ≡ f i → ⊥) → differs f s ≡ true
   unlike i l n = one-of (λ k. not (eqb (getD s k 0) (f k))) (length s) i l (ap not (ne-eqb (getD s i 0) (f i) n))
+
+-- the octet of a string at i, by what the calls answer that lead to it
+pub octet-is : (at : ℕ) (list : List ℕ) (i : ℕ) {n r k x p y : ℕ} → n ≡ numberFrom 2 at list → r ≡ repeatAt at list → k ≡ after r 2 → x ≡ getD list k 0 → p ≡ after at (2 + i) → y ≡ pick (ltb i n) (getD list p 0) x → y ≡ octetIn at list i
+octet-is at list i a b d e f g = cc

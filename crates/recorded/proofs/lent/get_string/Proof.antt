@@ -1,21 +1,14 @@
 -- `get_string` stores an octet a turn: the invariant says that the first i are there, and where the next one stands.
 -- The measure is what is left.
-use Prim.Native.Nat.{ℕ, _+_, _-_, _≤_}
+use Prim.Native.Nat.{_+_, _-_, _≤_}
 use native.Mathlib.Omega.{arith}
 use mathlib.Core.Path.{_≡_, refl, ap, _∙_}
-use mathlib.Core.List.{List}
-use lib.Dec.{ltb}
-use lib.ListN.{length, getD, take, length-set}
-use Rattle.definitions.specs.Basic.{pick}
-use Rattle.recorded.specs.Format.{after, numberFrom, repeatAt, octetIn, first}
-use Rattle.recorded.proofs.Laws.{after-after, fill-step, filled}
+use lib.ListN.{length, take, length-set}
+use Rattle.recorded.specs.Format.{after, octetIn, first}
+use Rattle.recorded.proofs.Laws.{octet-is, after-after, fill-step, filled}
 use borrow.Author.Needs.{needs}
 use Rattle.recorded.proofs.lent.get_string.Statement.{statement}
 use Rattle.recorded.proofs.lent.get_string.Tie as tie
-
--- the octet i is what the calls answer
-octet-is : (at : ℕ) (list : List ℕ) (i : ℕ) {n r k x p y : ℕ} → n ≡ numberFrom 2 at list → r ≡ repeatAt at list → k ≡ after r 2 → x ≡ getD list k 0 → p ≡ after at (2 + i) → y ≡ pick (ltb i n) (getD list p 0) x → y ≡ octetIn at list i
-octet-is at list i a b d e f g = cc
 
 abbrev Inv-loop : tie.InvT-loop
 Inv-loop list at out₀ n x p₀ i₀ out p i = (i ≤ length out₀) × (length out ≡ length out₀) × (p ≡ after at (2 + i)) × (take i out ≡ first (octetIn at list) i)

@@ -9,7 +9,7 @@ use lib.ListN.{length, getD}
 use Rattle.definitions.specs.Basic.{pick}
 use Rattle.recorded.specs.Format.{after, numberFrom, repeatAt, stringLength, octetIn}
 use Rattle.recorded.specs.Lent.{lentOctet, octetsAre}
-use Rattle.recorded.proofs.Laws.{after-after, Alike, alike-none, alike-step, alike-all, unlike}
+use Rattle.recorded.proofs.Laws.{octet-is, after-after, Alike, alike-none, alike-step, alike-all, unlike}
 use borrow.Author.Needs.{needs}
 use Rattle.recorded.proofs.lent.output_is.Statement.{statement}
 use Rattle.recorded.proofs.lent.output_is.Tie as tie
@@ -20,7 +20,7 @@ due at list i = pick (ltb i (stringLength at list)) (octetIn at list i) lentOcte
 
 -- it is what the calls of a turn answer
 due-is : (at : ℕ) (list : List ℕ) (i : ℕ) {n len r k x p y o : ℕ} → n ≡ numberFrom 2 at list → len ≡ stringLength at list → r ≡ repeatAt at list → k ≡ after r 2 → x ≡ getD list k 0 → p ≡ after at (2 + i) → y ≡ pick (ltb i n) (getD list p 0) x → o ≡ pick (ltb i len) y lentOctet → o ≡ due at list i
-due-is at list i a b d e f g h j = cc
+due-is at list i a b d e f g h j = rw (b, octet-is at list i a d e f g h) at j
 
 abbrev Inv-loop : tie.InvT-loop
 Inv-loop list at output n len x p₀ i₀ p i = (p ≡ after at (2 + i)) × Alike (due at list) output i
