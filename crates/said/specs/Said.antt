@@ -1,0 +1,28 @@
+-- What a numbered table says of an IEI that is a row's first.
+use Prim.Native.Nat.{ℕ}
+use mathlib.Core.List.{List}
+use mathlib.Core.Option.{Option, none, some}
+use lib.Dec.{eqb}
+use Rattle.definitions.specs.Basic.{pick}
+use Rattle.definitions.specs.Rows.{Row, rowsOf, rowAt, firstIei, placeOf}
+use Rattle.real.specs.Real.{realOf}
+use Rattle.said.specs.declared.Said.{Said}
+
+abbrev pub nothingSaid : Said
+nothingSaid = record { place = 255; code = 0; size = 0; least = 0; kinds = 0 }
+
+-- by the row of a place
+abbrev pub saidOfRow : Row → ℕ → Said
+saidOfRow r k = record { place = k; code = r .code; size = r .size; least = r .least; kinds = r .kinds }
+
+-- by the place of an IEI
+unfoldable pub saidBy : List Row → ℕ → Option ℕ → Said
+saidBy t iei none = nothingSaid
+saidBy t iei (some k) = pick (eqb iei (firstIei t k)) (saidOfRow (rowAt t k) k) nothingSaid
+
+-- by a table, and by its number
+unfoldable pub saidIn : List Row → ℕ → Said
+saidIn t iei = saidBy t iei (placeOf t iei)
+
+unfoldable pub saidOf : ℕ → ℕ → Said
+saidOf n iei = saidIn (rowsOf (realOf n)) iei
