@@ -1,32 +1,19 @@
--- The rows of a part, found among zeros, and its logs, copied out.
--- Its elements entered into zeros are the rows of its places; as many are copied as the table has places.
-use Prim.Native.Nat.{ℕ, zero, suc, _*_, _≤_}
+-- What a short part leaves in arrays of its own, copied out: the rows found among zeros, and both logs.
+-- As many numbers are copied as the table has places, and as many octets as each log uses.
+use Prim.Native.Nat.{ℕ, _*_, _≤_}
 use native.Mathlib.Omega.{arith}
-use mathlib.Core.Path.{_≡_, refl, ap, sym, _∙_}
-use mathlib.Core.List.{List, _∷_}
-use mathlib.Core.Bool.{Bool, true, false}
-use mathlib.Core.Option.{none, some}
+use mathlib.Core.Path.{_≡_, ap, sym, _∙_}
+use mathlib.Core.List.{List}
+use mathlib.Core.Bool.{Bool}
+use mathlib.Core.Option.{none}
 use lib.ListN.{length, take, drop, replicate, length-append}
-use lib.Seq.{take-append-seam}
-use Rattle.definitions.specs.Basic.{pick, over}
+use Rattle.definitions.specs.Basic.{over}
 use Rattle.definitions.specs.Rows.{Row, firstBad}
-use Rattle.definitions.specs.Elements.{Element, Parted, elements, cutShort, elementsOf, parted}
-use Rattle.definitions.specs.Logs.{plainFrom, keptOf, entriesOf}
-use Rattle.definitions.specs.Reading.{placeRows}
-use Rattle.reading.specs.Fills.{enteredAll, Written}
-use Rattle.reading.specs.Plains.{plainIn, plainRows, Plainly}
-use Rattle.reading.proofs.Entered.{all-entered, rows-length}
+use Rattle.definitions.specs.Elements.{Parted, elementsOf, parted}
+use Rattle.definitions.specs.Logs.{keptOf, entriesOf}
+use Rattle.plain_reading.proofs.Copied.{front-is, copied}
+use Rattle.reading.specs.Fills.{Written}
 use Rattle.reading.proofs.Filling.{Entered}
-
-zeros-over : (m w : ℕ) → m ≤ w → over (replicate m 0) (replicate w 0) ≡ replicate w 0
-unfolding over
-zeros-over zero w h = refl
-zeros-over (suc m) zero h = absurd (omega arith)
-zeros-over (suc m) (suc w) h = ap (λ (x : List ℕ). 0 ∷ x) (zeros-over m w (omega arith))
-
-front-is : (a b : List ℕ) (m : ℕ) → length a ≡ m → take m (over a b) ≡ a
-unfolding over
-front-is a b m e = rw (← e) (take-append-seam a _)
 
 -- what is used of a buffer is within it
 pub used-within : (a b : List ℕ) {k : ℕ} {c : List ℕ} → k ≡ length a → c ≡ over a b → k ≤ length c
@@ -34,45 +21,15 @@ unfolding over
 used-within a b e q = omega (arith, e, ap length q ∙ length-append a (drop (length a) b))
 
 module _ (t : List Row) (passes : firstBad t ≡ none) (start : ℕ) (option : Bool) (part : List ℕ) (w : ℕ) (fits : 4 * length t ≤ w) where
-  copied : (es : List Element) → parted t start option part ≡ elements es → take (4 * length t) (enteredAll t es (replicate w 0)) ≡ placeRows t es
-  copied es e =
-      ap (λ (x : List ℕ). take (4 * length t) (enteredAll t es x)) (sym (zeros-over (4 * length t) w fits))
-      ∙ ap (take (4 * length t)) (all-entered t passes start option part es e (replicate w 0))
-      ∙ front-is (placeRows t es) (replicate w 0) (4 * length t) (rows-length t es)
-
   abbrev p : Parted
   p = parted t start option part
-
-  module _ (n : ℕ) (n-is : n ≡ 4 * length t) (rows found : List ℕ) where
-    pub plainly : some found ≡ plainRows t 0 p (replicate w 0) → {rows′ : List ℕ} → rows′ ≡ over (take n found) rows → Plainly t p true rows rows′
-    unfolding elementsOf
-    plainly e {rows′ = rows′} q = by p refl e
-      where
-        by : (o : Parted) → p ≡ o → some found ≡ plainRows t 0 o (replicate w 0) → Plainly t o true rows rows′
-        by (cutShort a x m q) c f = let z : _≡_ {A = ℕ} 0 1 = cc in absurd (omega arith)
-        by (elements es) c f = go (plainFrom t 0 es) refl f
-          where
-            go : (b : Bool) → plainFrom t 0 es ≡ b → some found ≡ pick b (some (enteredAll t es (replicate w 0))) none → Plainly t (elements es) true rows rows′
-            go true d g = let h : found ≡ enteredAll t es (replicate w 0) = cc in record { is = sym d; rows-are = q ∙ ap (λ (x : List ℕ). over x rows) (rw (n-is, h) (copied es c)) }
-            go false d g = let z : _≡_ {A = ℕ} 0 1 = cc in absurd (omega arith)
-
-  pub not-plainly : (rows : List ℕ) → none ≡ plainRows t 0 p (replicate w 0) → Plainly t p false rows rows
-  not-plainly rows e = record { is = by p e; rows-are = refl }
-    where
-      go : (b : Bool) (x : List ℕ) → none ≡ pick b (some x) none → false ≡ b
-      go true x g = let z : _≡_ {A = ℕ} 0 1 = cc in absurd (omega arith)
-      go false x g = refl
-
-      by : (o : Parted) → none ≡ plainRows t 0 o (replicate w 0) → false ≡ plainIn t 0 o
-      by (elements es) f = go (plainFrom t 0 es) _ f
-      by (cutShort a x m q) f = refl
 
   -- every element entered among zeros, with the octets used of each log, and copied out
   pub written : (n : ℕ) → n ≡ 4 * length t → {k o : ℕ} {rows kept order kept₀ order₀ found aside entries rows′ kept′ order′ : List ℕ} → Entered t p k o (replicate w 0) kept₀ order₀ found aside entries
       → rows′ ≡ over (take n found) rows → kept′ ≡ over (take k aside) kept → order′ ≡ over (take o entries) order → Written t (elementsOf p) rows kept order rows′ kept′ order′
   written n n-is {k} {o} {rows} {kept} {order} {kept₀} {order₀} e a b c =
       record {
-        rows-are = a ∙ ap (λ (x : List ℕ). over x rows) (rw (n-is, e .rows-are) (copied (elementsOf p) (e .decodes)));
+        rows-are = a ∙ ap (λ (x : List ℕ). over x rows) (rw (n-is, e .rows-are) (copied t passes start option part w fits (elementsOf p) (e .decodes)));
         kept-is = b ∙ ap (λ (x : List ℕ). over x kept) (rw (e .kept-is) (front-is (keptOf (elementsOf p)) kept₀ k (sym (e .kept-used))));
         order-is = c ∙ ap (λ (x : List ℕ). over x order) (rw (e .order-is) (front-is (entriesOf (elementsOf p)) order₀ o (sym (e .order-used))));
       }

@@ -5,20 +5,25 @@ use native.Mathlib.Omega.{arith}
 use mathlib.Core.Path.{_≡_, refl, ap, sym, _∙_}
 use mathlib.Core.List.{List, []}
 use mathlib.Core.Bool.{Bool, true, false, false≢true}
-use mathlib.Core.Option.{none, some}
+use mathlib.Core.Option.{Option, none, some, Option·getD}
+use borrow.Author.Tests.{ltb-true, leb-true}
 use lib.ListN.{length}
 use Rattle.definitions.specs.Basic.{Answer, answer, over, mostOctets}
-use Rattle.definitions.specs.Rows.{Row, rowsOf, firstBad}
+use Rattle.definitions.specs.Rows.{Row, rowsF, rowsOf, firstBad}
 use Rattle.definitions.specs.Elements.{Element, Parted, elements, cutShort, elementsOf, parted}
 use Rattle.definitions.specs.Logs.{keptOf, entriesOf, orderOf}
 use Rattle.definitions.specs.Reading.{Lent, Read, unread, placeRows, readElements, reading, readingBy}
 use Rattle.definitions.specs.Tables.{tableOf, startOf}
 use Rattle.definitions.proofs.PlainLaws.{kept-none}
 use Rattle.definitions.proofs.Readings.{read-long, read-rows, read-cut, read-kept, read-order, read-done}
+use Rattle.definitions.proofs.RowLaws.{both}
 use Rattle.rows.specs.Indexed.{Indexed}
+use Rattle.real.specs.Real.{realOf}
+use Rattle.real.proofs.RealLaws.{real}
 use Rattle.reading.specs.Measures.{measuredFrom, noTally}
 use Rattle.reading.specs.Fills.{exact, Ready, Written}
-use Rattle.reading.specs.Plains.{plainIn, Plainly}
+use Rattle.plain_reading.specs.Plains.{plainIn, Plainly}
+use Rattle.plain_reading.specs.ByNumber.{plainHere, PlainBy}
 use Rattle.reading.specs.Decodes.{decodedAs, lentOf, Reads}
 use Rattle.reading.specs.declared.decode.Decoded.{Decoded}
 use Rattle.reading.proofs.Filling.{Entered}
@@ -171,3 +176,23 @@ by-none n option part l e = rw (e, readingBy)
 -- the same of an equal reading
 pub moved : {r r′ : Read} {d : Decoded} {rows kept order : List ℕ} → r′ ≡ r → Reads r d rows kept order → Reads r′ d rows kept order
 moved e h = rw e h
+
+-- ---- a part of which the table of a number says all
+
+table-there : (n : ℕ) → 0 < length (rowsOf (realOf n)) → tableOf n ≡ some (realOf n)
+unfolding rowsOf rowsF
+table-there n h = by (tableOf n) refl h
+  where
+    by : (o : Option (List ℕ)) → tableOf n ≡ o → 0 < length (rowsOf (Option·getD o [])) → tableOf n ≡ some (Option·getD o [])
+    by none q g = absurd (omega (arith, g))
+    by (some t) q g = q
+
+pub by-plain : (n : ℕ) (option : Bool) (part rows kept order : List ℕ) {rows′ : List ℕ} → PlainBy n option part rows true rows′ → Reads (readingBy n option part (lentOf rows kept order)) (Decoded.Done 0 0) rows′ kept order
+unfolding plainHere
+by-plain n option part rows kept order q =
+    let t : List Row = rowsOf (realOf n) in
+    let a = both _ _ (sym (q .is)) in
+    let b = both _ _ (a .1) in
+    let c = both _ _ (b .1) in
+    moved (by-number n option part (lentOf rows kept order) (table-there n (ltb-true _ _ (a .0))))
+    (all-plain (realOf n) startOf option part rows kept order (real n .passes) (leb-true _ _ (b .0)) (leb-true _ _ (c .0)) (record { is = sym (c .1); rows-are = q .rows-are }))

@@ -19,13 +19,14 @@ use Rattle.order.specs.Order.{placedAs}
 use Rattle.order.specs.declared.Placed.{Placed}
 use Rattle.order.specs.declared.IgnoredIeReason.{IgnoredIeReason}
 use Rattle.elements.specs.Steps.{placedFor, elementOf, metOf}
-use Rattle.reading.specs.Fills.{rowEntered, rowBy, RowFits, RowFitsBy, keptOfFound, entryBy, noteBy, enteredAll, Outcome, done, cut, filledFrom, outcome, Room, exact, twice, Ready}
+use Rattle.plain_reading.specs.Entered.{rowEntered, rowBy, enteredAll}
+use Rattle.reading.specs.Fills.{RowFits, RowFitsBy, keptOfFound, entryBy, noteBy, Outcome, done, cut, filledFrom, outcome, Room, exact, twice, Ready}
 use Rattle.reading.specs.declared.measure.Measured.{Measured}
 use Rattle.elements.specs.Nexts.{startState}
 use Rattle.elements.specs.declared.element.State.{State}
 use Rattle.elements.specs.declared.element.Element.{Element}
 use Rattle.elements.proofs.Nexts.{from, Nexts, from-start}
-use Rattle.reading.proofs.Accepted.{Accepted, accepted-one}
+use Rattle.plain_reading.proofs.Accepted.{Accepted, accepted-one}
 
 -- ---- an element's entries, and the rest
 

@@ -1,10 +1,7 @@
 -- Laws that the proofs of this crate cite.
 pub mod Tallies
 pub mod Counting
-pub mod Accepted
 pub mod Filling
-pub mod Entered
-pub mod Lining
 pub mod Copied
 pub mod Decoding
 pub mod Parts

@@ -11,7 +11,8 @@ use Rattle.definitions.specs.Basic.{over, overAt}
 use Rattle.definitions.specs.Rows.{rowsOf}
 use Rattle.definitions.specs.Elements.{elements, cutShort}
 use Rattle.definitions.proofs.Lists.{length-overAt}
-use Rattle.reading.specs.Fills.{rowEntered, keptOfFound, noteBy, done, cut, Ready}
+use Rattle.plain_reading.specs.Entered.{rowEntered}
+use Rattle.reading.specs.Fills.{keptOfFound, noteBy, done, cut, Ready}
 use Rattle.elements.specs.Nexts.{startState}
 use Rattle.elements.specs.declared.element.State.{State}
 use Rattle.elements.specs.declared.element.Element.{Element}

@@ -1,36 +1,23 @@
 -- What an element found leaves in the lent rows and logs, by how it came.
-use Prim.Native.Nat.{ℕ, _+_, _*_, _-_, _≤_, _<_}
-use mathlib.Core.List.{List, [], _∷_}
+use Prim.Native.Nat.{ℕ, _+_, _*_, _≤_, _<_}
+use mathlib.Core.List.{List, []}
 use mathlib.Core.Bool.{Bool}
 use lib.ListN.{length, take, drop}
 use Rattle.definitions.specs.Basic.{over, overAt}
 use mathlib.Core.Path.{_≡_}
 use mathlib.Core.Option.{none}
-use Rattle.definitions.specs.Rows.{Row, rowsOf, rowAt, form, firstBad}
+use Rattle.definitions.specs.Rows.{Row, rowsOf, firstBad}
 use Rattle.definitions.specs.Elements.{Element as DefElement, Parted, elements, cutShort, elementsOf, parted}
-use Rattle.definitions.specs.Length.{header}
 use Rattle.definitions.specs.Logs.{keptEntry, orderEntry, keptOf, entriesOf}
 use Rattle.definitions.specs.Reading.{placeRows}
 use Rattle.order.specs.Order.{placedAs}
 use Rattle.order.specs.declared.Placed.{Placed}
-use Rattle.elements.specs.Steps.{elementOf}
 use Rattle.rows.specs.Indexed.{Indexed}
 use Rattle.elements.specs.declared.element.Element.{Element}
+use Rattle.plain_reading.specs.Entered.{before, enteredAll}
 use Rattle.reading.specs.declared.measure.Measured.{Measured}
 
 -- ---- the place rows
-
--- the octets before the value of an element of a place
-abbrev pub before : List Row → ℕ → ℕ
-before t place = header (form (rowAt t place))
-
-abbrev pub rowBy : List Row → ℕ → ℕ → ℕ → List ℕ → Placed → List ℕ
-rowBy t place start len rows (Placed.Known iei) = overAt (4 * place) (1 ∷ (start + before t place) ∷ (len - before t place) ∷ iei ∷ []) rows
-rowBy t place start len rows Placed.Unknown = rows
-rowBy t place start len rows (Placed.Ignored r) = rows
-
-unfoldable pub rowEntered : List Row → Element → List ℕ → List ℕ
-rowEntered t e rows = rowBy t (e .place) (e .start) (e .len) rows (e .placed)
 
 -- an accepted element's row is there, and its numbers are of 32 bits
 abbrev pub RowFitsBy : List Row → ℕ → ℕ → ℕ → List ℕ → Placed → Type 0
@@ -59,11 +46,6 @@ abbrev pub noteBy : Placed → List ℕ
 noteBy p = orderEntry (placedAs p)
 
 -- ---- a whole part
-
--- the rows with every element entered, one after the other
-unfoldable pub enteredAll : List Row → List DefElement → List ℕ → List ℕ
-enteredAll t [] rows = rows
-enteredAll t (e ∷ es) rows = enteredAll t es (rowEntered t (elementOf e) rows)
 
 -- the octets used of each log, and what is then in the rows and logs; or the unknown element that is cut short
 pub data Outcome : Type 0 where

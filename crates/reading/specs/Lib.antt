@@ -1,6 +1,6 @@
 -- What the answers of this crate are by the definitions.
 pub mod Measures
 pub mod Fills
-pub mod Plains
+pub mod Fitting
 pub mod Decodes
 pub mod Blocks

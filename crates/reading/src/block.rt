@@ -31,7 +31,8 @@ ghost use Rattle.definitions.specs.Elements.{elements, elementsOf, parted};
 ghost use Rattle.definitions.specs.Block.{readingBlock, readingBlockBy};
 ghost use Rattle.rows.specs.Indexed.{Indexed};
 ghost use Rattle.reading.specs.Fills.{keptOfFound, outcome, filledFrom, Ready, Written};
-ghost use Rattle.reading.specs.Plains.{Fits, plainIn};
+ghost use Rattle.reading.specs.Fitting.{Fits};
+ghost use Rattle.plain_reading.specs.Plains.{plainIn};
 ghost use Rattle.reading.specs.Blocks.{ReadsBlock};
 
 // An element that no row took, behind what the block has of the kept log; the octets then used. As `keep` does: a function of two callers

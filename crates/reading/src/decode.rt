@@ -9,6 +9,7 @@ use crate::short::decode_short;
 use checks::Checked;
 use checks::check_and_index;
 use octets::MOST_OCTETS;
+use plain_reading::decode_plain;
 use real::index_p;
 use real::index_pdu_session_establishment_accept;
 use real::index_pdu_session_establishment_request;
@@ -34,7 +35,8 @@ ghost use Rattle.definitions.specs.Elements.{parted};
 ghost use Rattle.definitions.specs.Reading.{reading, readingBy};
 ghost use Rattle.real.specs.Real.{realOf};
 ghost use Rattle.rows.specs.Indexed.{Indexed};
-ghost use Rattle.reading.specs.Plains.{Fits, plainIn};
+ghost use Rattle.reading.specs.Fitting.{Fits};
+ghost use Rattle.plain_reading.specs.Plains.{plainIn};
 ghost use Rattle.reading.specs.Decodes.{lentOf, Reads};
 
 // What a refusal for want of room names.
@@ -347,8 +349,8 @@ fn decode_pdu_session_establishment_accept(
     )
 }
 
-// By table number, with that table's start number.
-pub fn decode_optional_ies_by(
+// By table number, the table and its index laid out on the stack.
+fn decode_numbered(
     number: u32,
     octets: &[u8],
     out_of_sequence: bool,
@@ -368,4 +370,21 @@ pub fn decode_optional_ies_by(
         6 => decode_pdu_session_establishment_accept(octets, out_of_sequence, rows, kept, order),
         _ => Decoded::NoTable,
     }
+}
+
+// By table number, with that table's start number: where the table says all of the part, without laying the table out.
+pub fn decode_optional_ies_by(
+    number: u32,
+    octets: &[u8],
+    out_of_sequence: bool,
+    rows: &mut [u32],
+    kept: &mut [u8],
+    order: &mut [u8],
+) -> Decoded
+    ensures { λ r. ⌜ Reads (readingBy number «out_of_sequence» (now (octets .entry)) (lentOf (now (rows .entry)) (now (kept .entry)) (now (order .entry)))) r (now (rows .exit)) (now (kept .exit)) (now (order .exit)) ⌝ }
+{
+    if decode_plain(number, octets, rows) {
+        return Decoded::Done(0, 0);
+    }
+    decode_numbered(number, octets, out_of_sequence, rows, kept, order)
 }

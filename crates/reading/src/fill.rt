@@ -29,7 +29,8 @@ ghost use Rattle.definitions.specs.Logs.{keptEntry, orderEntry};
 ghost use Rattle.definitions.specs.Elements.{elements, elementsOf, parted};
 ghost use Rattle.order.specs.Order.{placedAs};
 ghost use Rattle.rows.specs.Numbers.{Whole};
-ghost use Rattle.reading.specs.Fills.{RowFits, rowEntered, keptOfFound, outcome, filledFrom, Ready, Written};
+ghost use Rattle.plain_reading.specs.Entered.{rowEntered};
+ghost use Rattle.reading.specs.Fills.{RowFits, keptOfFound, outcome, filledFrom, Ready, Written};
 
 // No number in the first n.
 pub(crate) fn clear_rows(rows: &mut [u32], n: usize)

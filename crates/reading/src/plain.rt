@@ -6,17 +6,19 @@ use elements::element::entry_of;
 use elements::element::fit_of;
 use elements::element::header;
 use elements::element::iei_of;
+use plain_reading::copy_rows;
 use rows::columns::form_of;
 use rows::columns::numbers_at;
 ghost use mathlib.Core.Path.{_≡_};
 ghost use mathlib.Core.Bool.{Bool};
 ghost use mathlib.Core.Option.{none, some};
 ghost use Prim.Native.Nat.{ℕ, _*_, _≤_};
-ghost use lib.ListN.{length, take};
-ghost use Rattle.definitions.specs.Basic.{pick, over};
+ghost use lib.ListN.{length};
+ghost use Rattle.definitions.specs.Basic.{pick};
 ghost use Rattle.definitions.specs.Rows.{rowsOf};
 ghost use Rattle.definitions.specs.Elements.{parted};
-ghost use Rattle.reading.specs.Plains.{plainRows, Fits, Plainly};
+ghost use Rattle.reading.specs.Fitting.{Fits};
+ghost use Rattle.plain_reading.specs.Plains.{plainRows, Plainly};
 
 // Whether the table says all of a part. If so its elements are entered into the rows; if not, the rows are of no use.
 fn plain_pass(octets: &[u8], table: &[u32], index: &[u8; 256], found: &mut [u32]) -> bool
@@ -49,18 +51,6 @@ fn plain_pass(octets: &[u8], table: &[u32], index: &[u8; 256], found: &mut [u32]
         at += n;
     }
     true
-}
-
-// The first n numbers.
-pub(crate) fn copy_rows(rows: &mut [u32], found: &[u32], n: usize)
-    requires { ⌜ (n ≤ length (now rows)) × (n ≤ length (now found)) ⌝ }
-    ensures { λ r. ⌜ now (rows .exit) ≡ over (take n (now (found .entry))) (now (rows .entry)) ⌝ }
-{
-    let mut i = 0;
-    while i < n {
-        rows[i] = found[i];
-        i += 1;
-    }
 }
 
 // ---- the rows are found in an array of one of three lengths, since it is cleared at each call

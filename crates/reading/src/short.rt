@@ -3,8 +3,8 @@ use crate::decode::Decoded;
 use crate::decode::Room;
 use crate::fill::fill_elements;
 use crate::measure::Measured;
-use crate::plain::copy_rows;
 use octets::put_slice;
+use plain_reading::copy_rows;
 ghost use mathlib.Core.Path.{_≡_};
 ghost use mathlib.Core.Bool.{false};
 ghost use Prim.Native.Nat.{_*_, _≤_};
@@ -13,7 +13,8 @@ ghost use Rattle.definitions.specs.Basic.{over};
 ghost use Rattle.definitions.specs.Rows.{rowsOf};
 ghost use Rattle.definitions.specs.Elements.{parted};
 ghost use Rattle.definitions.specs.Reading.{reading};
-ghost use Rattle.reading.specs.Plains.{Fits, plainIn};
+ghost use Rattle.reading.specs.Fitting.{Fits};
+ghost use Rattle.plain_reading.specs.Plains.{plainIn};
 ghost use Rattle.reading.specs.Decodes.{lentOf, Reads};
 
 // The octets of a part, and the numbers of rows, that the arrays hold: no log needs more than twice the octets.

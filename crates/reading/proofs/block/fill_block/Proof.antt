@@ -8,8 +8,8 @@ use Rattle.definitions.specs.Basic.{over}
 use Rattle.definitions.specs.Rows.{rowsOf}
 use Rattle.definitions.specs.Elements.{elementsOf, parted}
 use Rattle.definitions.specs.Reading.{placeRows}
-use Rattle.reading.specs.Fills.{enteredAll}
-use Rattle.reading.proofs.Entered.{all-entered}
+use Rattle.plain_reading.specs.Entered.{enteredAll}
+use Rattle.plain_reading.proofs.Entered.{all-entered}
 use Rattle.reading.proofs.Filling.{entered-whole, still-ready}
 use borrow.Author.Needs.{needs}
 use Rattle.reading.proofs.block.fill_block.Statement.{statement}

@@ -6,7 +6,7 @@ use mathlib.Core.Path.{_≡_, ap, sym, _∙_}
 use lib.ListN.{length}
 use Rattle.definitions.specs.Rows.{rowsOf, form}
 use Rattle.definitions.specs.Length.{header}
-use Rattle.reading.specs.Fills.{before, rowBy, rowEntered}
+use Rattle.plain_reading.specs.Entered.{before, rowBy, rowEntered}
 use borrow.Author.Needs.{needs}
 use Rattle.reading.proofs.fill.enter_row.Statement.{statement}
 use Rattle.reading.proofs.fill.enter_row.Tie as tie

@@ -2,7 +2,7 @@
 -- The rows found are those of the part's places.
 use native.Mathlib.Omega.{arith}
 use Rattle.definitions.specs.Rows.{rowsOf}
-use Rattle.reading.proofs.Copied.{plainly, not-plainly}
+use Rattle.plain_reading.proofs.Copied.{all-copied, plainly, not-plainly}
 use borrow.Author.Needs.{needs}
 use Rattle.reading.proofs.plain.plain_few.Statement.{statement}
 use Rattle.reading.proofs.plain.plain_few.Tie as tie
@@ -23,7 +23,7 @@ same-length : tie.Need-same-length
 same-length c = search needs
 
 returns : tie.Need-returns
-returns c start option = let a = c .before .before .before .before .before .before .before .before .before .before .before .before .args in let r = c .before .before .before .before .before .before .before .before .before .before .before .before .pre in plainly (rowsOf (a .table .now)) (r .0 .passes) start option (a .octets .now) 64 (omega (arith, r .1, r .2)) (a .n) (r .1) (a .rows .now) _ (rw (c .before .before .before .before .before .if1 .taken) at (c .before .before .before .before .before .before .before .plain-pass .ensures start option)) (c .before .before .copy-rows .ensures)
+returns c start option = let a = c .before .before .before .before .before .before .before .before .before .before .before .before .args in let r = c .before .before .before .before .before .before .before .before .before .before .before .before .pre in plainly (rowsOf (a .table .now)) (r .0 .passes) start option (a .octets .now) 64 (omega (arith, r .1, r .2)) (a .n) (r .1) (a .rows .now) _ (rw (c .before .before .before .before .before .if1 .taken) at (c .before .before .before .before .before .before .before .plain-pass .ensures start option)) (all-copied (a .rows .now) _ (a .n) (r .3) (omega (arith, r .2, c .before .before .before .before .before .before .found2 .given)) (c .before .before .copy-rows .ensures))
 
 returns-2 : tie.Need-returns-2
 returns-2 c start option = let a = c .before .before .before .before .before .before .before .args in let r = c .before .before .before .before .before .before .before .pre in not-plainly (rowsOf (a .table .now)) (r .0 .passes) start option (a .octets .now) 64 (omega (arith, r .1, r .2)) (a .rows .now) (rw (c .if1 .left) at (c .before .before .plain-pass .ensures start option))

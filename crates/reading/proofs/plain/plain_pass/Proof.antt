@@ -14,8 +14,8 @@ use Rattle.rows.specs.declared.columns.Numbers.{Numbers}
 use Rattle.elements.specs.Steps.{fitOf}
 use Rattle.elements.specs.declared.element.Fit.{Fit}
 use Rattle.elements.proofs.Came.{row-same}
-use Rattle.reading.specs.Fills.{before}
-use Rattle.reading.proofs.Lining.{Lining, Enters, begun, ended, none-strange, none-below, none-other, none-taken, enters}
+use Rattle.plain_reading.specs.Entered.{before}
+use Rattle.plain_reading.proofs.Lining.{Lining, Enters, begun, ended, none-strange, none-below, none-other, none-taken, enters}
 use borrow.Author.Needs.{needs}
 use Rattle.reading.proofs.plain.plain_pass.Statement.{statement}
 use Rattle.reading.proofs.plain.plain_pass.Tie as tie

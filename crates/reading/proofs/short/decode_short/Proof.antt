@@ -6,6 +6,7 @@ use Rattle.definitions.specs.Rows.{rowsOf}
 use Rattle.definitions.specs.Elements.{parted}
 use Rattle.reading.specs.Fills.{twice}
 use Rattle.reading.proofs.Filling.{Entered, entered, cut-of}
+use Rattle.plain_reading.proofs.Copied.{all-copied}
 use Rattle.reading.proofs.Copied.{used-within, written}
 use Rattle.reading.proofs.Decoding.{needed-by, cut-short, no-kept, no-order, done}
 use borrow.Author.Needs.{needs}
@@ -75,7 +76,7 @@ returns-4 c =
     let a = c .before .before .before .before .before .before .before .before .before .before .before .before .before .before .before .before .before .before .before .before .before .before .before .before .before .before .before .before .before .before .before .before .args in
     let f = c .before .before .before .before .before .before .before .before .before .before .before .before .before .before .before .before .before .before .before .before .before .before .before .before .before .before .before .before .before .before .before .before .pre in
     done (a .table .now) (a .tlve-start) (a .option) (a .octets .now) (a .rows .now) (a .kept .now) (a .order .now) (f .0 .passes) (f .0 .short) (f .0 .room) (c .before .before .before .before .before .before .before .before .before .before .before .before .before .before .before .before .before .before .k .given .0 .0) (c .before .before .before .before .before .before .before .before .before .before .before .before .before .before .before .before .before .before .k .given .0 .1 .0) (needed-by (f .1) (read (c .before .before .before .before .before .before .before .before .before .before .before .before .before .before .before .before .before))) (omega arith) (omega arith)
-    (written (rowsOf (a .table .now)) (f .0 .passes) (a .tlve-start) (a .option) (a .octets .now) 160 (omega (arith, f .2, f .3)) (a .n) (f .2) (read (c .before .before .before .before .before .before .before .before .before .before .before .before .before .before .before .before .before)) (c .before .before .before .before .before .before .before .before .before .before .before .before .copy-rows .ensures) (c .before .before .before .before .before .before .before .copy-octets .ensures) (c .before .before .copy-octets2 .ensures))
+    (written (rowsOf (a .table .now)) (f .0 .passes) (a .tlve-start) (a .option) (a .octets .now) 160 (omega (arith, f .2, f .3)) (a .n) (f .2) (read (c .before .before .before .before .before .before .before .before .before .before .before .before .before .before .before .before .before)) (all-copied (a .rows .now) _ (a .n) (omega (arith, f .2, f .0 .room)) (omega (arith, f .3, c .before .before .before .before .before .before .before .before .before .before .before .before .before .before .before .before .before .before .before .before .before .before .found2 .given)) (c .before .before .before .before .before .before .before .before .before .before .before .before .copy-rows .ensures)) (c .before .before .before .before .before .before .before .copy-octets .ensures) (c .before .before .copy-octets2 .ensures))
 
 pub decode-short-spec : {M : Type 1} → statement M
 decode-short-spec =

@@ -29,10 +29,10 @@ use Rattle.elements.specs.declared.element.Element.{Element}
 use Rattle.elements.specs.declared.element.Came.{Came}
 use Rattle.elements.proofs.Came.{Ways, came-here, row-same}
 use Rattle.elements.proofs.Nexts.{from, from-start, Nexts, nexts, cuts, at-end}
-use Rattle.reading.specs.Fills.{before as headOf, rowEntered, enteredAll}
-use Rattle.reading.specs.Plains.{plainRows}
-use Rattle.reading.proofs.Accepted.{Accepted, accepted-one}
-use Rattle.reading.proofs.Entered.{met-with}
+use Rattle.plain_reading.specs.Entered.{before as headOf, rowEntered, enteredAll}
+use Rattle.plain_reading.specs.Plains.{plainRows}
+use Rattle.plain_reading.proofs.Accepted.{Accepted, accepted-one}
+use Rattle.plain_reading.proofs.Entered.{met-with}
 
 -- ---- the element in front
 

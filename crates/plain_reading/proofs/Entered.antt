@@ -20,8 +20,8 @@ use Rattle.definitions.proofs.Ieis.{ownRow, own-row}
 use Rattle.definitions.proofs.BitLaws.{bit-including, no-bit}
 use Rattle.definitions.proofs.Steps.{Stands, strange, placed, Reads, end, more, reads}
 use Rattle.elements.specs.Steps.{elementOf, placedFor}
-use Rattle.reading.specs.Fills.{rowEntered, rowBy, enteredAll}
-use Rattle.reading.proofs.Accepted.{Accepted, accepted-one}
+use Rattle.plain_reading.specs.Entered.{rowEntered, rowBy, enteredAll}
+use Rattle.plain_reading.proofs.Accepted.{Accepted, accepted-one}
 
 -- ---- rows of four numbers, by a function of the place
 

@@ -11,7 +11,7 @@ use Rattle.definitions.specs.Elements.{Parted, elements, cutShort, elementsOf}
 use Rattle.definitions.specs.Logs.{plainFrom}
 use Rattle.definitions.specs.Reading.{placeRows}
 use Rattle.rows.specs.Indexed.{Indexed}
-use Rattle.reading.specs.Fills.{enteredAll}
+use Rattle.plain_reading.specs.Entered.{enteredAll}
 
 -- whether the table says all of a part, where no place below the least may come
 abbrev pub plainIn : List Row → ℕ → Parted → Bool
@@ -22,13 +22,6 @@ plainIn t least (cutShort a x n m) = false
 abbrev pub plainRows : List Row → ℕ → Parted → List ℕ → Option (List ℕ)
 plainRows t least (elements es) rows = pick (plainFrom t least es) (some (enteredAll t es rows)) none
 plainRows t least (cutShort a x n m) rows = none
-
--- a part that is not too long, under a table that passes and its index, and so many numbers for its rows
-pub record Fits (table index part : List ℕ) (n : ℕ) : Type 0 where
-  pub indexed : Indexed table index
-  pub passes : firstBad (rowsOf table) ≡ none
-  pub short : length part ≤ 65535
-  pub room : 4 * length (rowsOf table) ≤ n
 
 -- the answer for a part, and the rows at exit
 pub record Plainly (t : List Row) (p : Parted) (r : Bool) (rows rows′ : List ℕ) : Type 0 where

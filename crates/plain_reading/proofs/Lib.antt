@@ -1,0 +1,7 @@
+-- Laws that proofs cite.
+pub mod Accepted
+pub mod Entered
+pub mod Copied
+pub mod Lining
+pub mod BySaid
+pub mod Answered
