@@ -15,7 +15,7 @@ use Rattle.real.specs.Real.{realOf}
 use Rattle.real.proofs.RealLaws.{real}
 use Rattle.said.specs.Said.{saidOfRow, saidOf}
 use Rattle.said.specs.declared.Said.{Said}
-use Rattle.said.proofs.Says.{indexOf, own-index, Says, strange, other, first, says}
+use Rattle.plain_reading.proofs.Says.{indexOf, own-index, Says, strange, other, first, says}
 use Rattle.elements.specs.Steps.{fitOf}
 use Rattle.elements.specs.declared.element.Fit.{Fit}
 use Rattle.plain_reading.specs.Entered.{before as headOf}

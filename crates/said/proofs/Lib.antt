@@ -1,3 +1,2 @@
--- What is said of an IEI, and that no other key names a row.
+-- That no other key names a row, and no other number a table.
 pub mod Unsaid
-pub mod Says

@@ -7,13 +7,13 @@ use mathlib.Core.List.{List, [], _∷_}
 use mathlib.Core.Bool.{Bool, true, false, _&&_, _||_, not, true≢false}
 use mathlib.Core.Option.{Option, none, some}
 use borrow.Author.Tests.{ne-eqb, eqb-true, eqb-false}
+use lib.ListN.{length}
 use lib.Dec.{eqb}
 use Rattle.definitions.specs.Basic.{pick, among, concat}
 use Rattle.definitions.specs.Rows.{Row, rowOf, rowsF, rowsOf, ieis, rowAt, firstIei, placeFrom, placeOf}
 use Rattle.definitions.specs.Tables.{tableOf, row, tableP, optional1, optional2, optional3, optional4, optional5, optional6}
 use Rattle.definitions.proofs.RowLaws.{both}
-use Rattle.real.specs.Real.{realOf}
-use Rattle.said.specs.Said.{nothingSaid, saidBy, saidIn, saidOf}
+use Rattle.said.specs.Said.{nothingSaid, saidBy, saidIn, rowsBy, saidOf}
 
 -- 256 times the table and the IEI, the last arm's first
 abbrev pub keys : List ℕ
@@ -59,7 +59,7 @@ abbrev isFirst : List Row → ℕ → Bool
 isFirst t iei = isFirstBy t iei (placeOf t iei)
 
 abbrev test : ℕ → ℕ → Bool
-test n iei = not (isFirst (rowsOf (realOf n)) iei) || among (256 * n + iei) keys
+test n iei = not (isFirst (rowsBy n) iei) || among (256 * n + iei) keys
 
 tested : (n : ℕ) → below 256 (test n) ≡ true
 unfolding below isFirstBy among concat rowOf rowsF rowsOf ieis rowAt firstIei placeFrom placeOf tableOf row tableP optional1 optional2 optional3 optional4 optional5 optional6
@@ -81,7 +81,7 @@ nothing-said t iei (some k) h = rw h
 
 pub unsaid : (B : Type 0) (key : ℕ) → Others B keys key → nothingSaid ≡ saidOf (key / 256) (key % 256)
 unfolding saidOf saidIn
-unsaid B key h = nothing-said (rowsOf (realOf (key / 256))) (key % 256) _ (by _ (below-at 256 (test (key / 256)) (tested (key / 256)) (key % 256) (omega arith)))
+unsaid B key h = nothing-said (rowsBy (key / 256)) (key % 256) _ (by _ (below-at 256 (test (key / 256)) (tested (key / 256)) (key % 256) (omega arith)))
   where
     no : among (256 * (key / 256) + key % 256) keys ≡ false
     no = let e : 256 * (key / 256) + key % 256 ≡ key = omega arith in rw e (others B keys key h)
@@ -89,3 +89,15 @@ unsaid B key h = nothing-said (rowsOf (realOf (key / 256))) (key % 256) _ (by _ 
     by : (b : Bool) → (not b || among (256 * (key / 256) + key % 256) keys) ≡ true → b ≡ false
     by true q = absurd (true≢false (sym q ∙ no))
     by false q = refl
+
+-- a number that names no table has no row
+pub no-rows : (n : ℕ) → (n ≡ 0 → ⊥) → (n ≡ 1 → ⊥) → (n ≡ 2 → ⊥) → (n ≡ 3 → ⊥) → (n ≡ 4 → ⊥) → (n ≡ 5 → ⊥) → (n ≡ 6 → ⊥) → 0 ≡ length (rowsBy n)
+unfolding tableOf rowsOf rowsF
+no-rows zero a b c d e f g = absurd (a refl)
+no-rows (suc zero) a b c d e f g = absurd (b refl)
+no-rows (suc (suc zero)) a b c d e f g = absurd (c refl)
+no-rows (suc (suc (suc zero))) a b c d e f g = absurd (d refl)
+no-rows (suc (suc (suc (suc zero)))) a b c d e f g = absurd (e refl)
+no-rows (suc (suc (suc (suc (suc zero))))) a b c d e f g = absurd (f refl)
+no-rows (suc (suc (suc (suc (suc (suc zero)))))) a b c d e f g = absurd (g refl)
+no-rows (suc (suc (suc (suc (suc (suc (suc n))))))) a b c d e f g = refl

@@ -1,11 +1,11 @@
 -- What a numbered table says of an IEI that is a row's first.
 use Prim.Native.Nat.{ℕ}
-use mathlib.Core.List.{List}
-use mathlib.Core.Option.{Option, none, some}
+use mathlib.Core.List.{List, []}
+use mathlib.Core.Option.{Option, none, some, Option·getD}
 use lib.Dec.{eqb}
 use Rattle.definitions.specs.Basic.{pick}
 use Rattle.definitions.specs.Rows.{Row, rowsOf, rowAt, firstIei, placeOf}
-use Rattle.real.specs.Real.{realOf}
+use Rattle.definitions.specs.Tables.{tableOf}
 use Rattle.said.specs.declared.Said.{Said}
 
 abbrev pub nothingSaid : Said
@@ -20,9 +20,12 @@ unfoldable pub saidBy : List Row → ℕ → Option ℕ → Said
 saidBy t iei none = nothingSaid
 saidBy t iei (some k) = pick (eqb iei (firstIei t k)) (saidOfRow (rowAt t k) k) nothingSaid
 
--- by a table, and by its number
+-- by the rows of a table, and by its number; a number that names none has no row
 unfoldable pub saidIn : List Row → ℕ → Said
 saidIn t iei = saidBy t iei (placeOf t iei)
 
+abbrev pub rowsBy : ℕ → List Row
+rowsBy n = rowsOf (Option·getD (tableOf n) [])
+
 unfoldable pub saidOf : ℕ → ℕ → Said
-saidOf n iei = saidIn (rowsOf (realOf n)) iei
+saidOf n iei = saidIn (rowsBy n) iei

@@ -3,9 +3,7 @@
 ghost use mathlib.Core.Path.{_≡_};
 ghost use Prim.Native.Nat.{_/_, _%_};
 ghost use lib.ListN.{length};
-ghost use Rattle.definitions.specs.Rows.{rowsOf};
-ghost use Rattle.real.specs.Real.{realOf};
-ghost use Rattle.said.specs.Said.{saidOf};
+ghost use Rattle.said.specs.Said.{rowsBy, saidOf};
 
 // The place of the row, and of its numbers those by which reading judges an element; NO_PLACE and zeros of another IEI.
 pub struct Said {
@@ -852,7 +850,7 @@ pub fn said_of(number: u32, iei: u8) -> Said
 
 // How many places the table of a number has; none where there is no table.
 pub fn places_of(number: u32) -> usize
-    ensures { λ r. ⌜ r ≡ length (rowsOf (realOf number)) ⌝ }
+    ensures { λ r. ⌜ r ≡ length (rowsBy number) ⌝ }
 {
     match number {
         0 => 5,

@@ -2,7 +2,7 @@
 -- A numbered table has 40 places at most.
 use native.Mathlib.Omega.{arith}
 use Rattle.definitions.specs.Tables.{startOf}
-use Rattle.said.proofs.Says.{few-real}
+use Rattle.plain_reading.proofs.Says.{few-real}
 use Rattle.plain_reading.proofs.Answered.{without-table, too-long, without-room, with-room}
 use borrow.Author.Needs.{needs}
 use Rattle.plain_reading.proofs.decode_plain.Statement.{statement}

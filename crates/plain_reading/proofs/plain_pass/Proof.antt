@@ -14,7 +14,7 @@ use Rattle.rows.specs.Numbers.{rowSaid}
 use Rattle.rows.specs.declared.columns.Numbers.{Numbers}
 use Rattle.real.specs.Real.{realOf}
 use Rattle.real.proofs.RealLaws.{real}
-use Rattle.said.proofs.Says.{indexOf}
+use Rattle.plain_reading.proofs.Says.{indexOf}
 use Rattle.elements.specs.Steps.{fitOf}
 use Rattle.elements.specs.declared.element.Fit.{Fit}
 use Rattle.plain_reading.specs.Entered.{before}

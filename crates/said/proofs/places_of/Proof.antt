@@ -4,7 +4,7 @@ use mathlib.Core.Path.{_≡_, refl}
 use Rattle.definitions.specs.Basic.{concat}
 use Rattle.definitions.specs.Rows.{rowOf, rowsF, rowsOf}
 use Rattle.definitions.specs.Tables.{tableOf, row, tableP, optional1, optional2, optional3, optional4, optional5, optional6}
-use Rattle.real.proofs.RealLaws.{real-further}
+use Rattle.said.proofs.Unsaid.{no-rows}
 use Rattle.said.proofs.places_of.Statement.{statement}
 use Rattle.said.proofs.places_of.Tie as tie
 
@@ -20,4 +20,4 @@ places-of-spec =
     (λ c. rw (c .match .keys5) refl)
     (λ c. rw (c .match .keys6) refl)
     (λ c. rw (c .match .keys7) refl)
-    (λ c. let r = c .match .rest in rw (real-further (c .before .args .number) (r .0 .0 .0 .0 .0 .0 .1) (r .0 .0 .0 .0 .0 .1) (r .0 .0 .0 .0 .1) (r .0 .0 .0 .1) (r .0 .0 .1) (r .0 .1) (r .1)) refl))
+    (λ c. let r = c .match .rest in no-rows (c .before .args .number) (r .0 .0 .0 .0 .0 .0 .1) (r .0 .0 .0 .0 .0 .1) (r .0 .0 .0 .0 .1) (r .0 .0 .0 .1) (r .0 .0 .1) (r .0 .1) (r .1)))
