@@ -5,7 +5,9 @@ use crate::measure::measure;
 use crate::plain::plain;
 use crate::short::MOST_ROWS;
 use crate::short::MOST_SHORT;
+use crate::short::MOST_SHORTEST;
 use crate::short::decode_short;
+use crate::short::decode_shortest;
 use checks::Checked;
 use checks::check_and_index;
 use octets::MOST_OCTETS;
@@ -35,8 +37,9 @@ ghost use Rattle.definitions.specs.Elements.{parted};
 ghost use Rattle.definitions.specs.Reading.{reading, readingBy};
 ghost use Rattle.real.specs.Real.{realOf};
 ghost use Rattle.rows.specs.Indexed.{Indexed};
-ghost use Rattle.reading.specs.Fitting.{Fits};
+ghost use Rattle.reading.specs.Fitting.{Fits, Unplain};
 ghost use Rattle.plain_reading.specs.Plains.{plainIn};
+ghost use Rattle.plain_reading.specs.ByNumber.{plainHere};
 ghost use Rattle.reading.specs.Decodes.{lentOf, Reads};
 
 // What a refusal for want of room names.
@@ -93,6 +96,40 @@ fn decode_by_index(
     )
 }
 
+// The same of a part of which the table is known not to say all.
+fn decode_unplain(
+    octets: &[u8],
+    table: &[u32],
+    index: &[u8; 256],
+    tlve_start: u8,
+    option: bool,
+    rows: &mut [u32],
+    kept: &mut [u8],
+    order: &mut [u8],
+) -> Decoded
+    requires { ⌜ Indexed (now table) (now index) × (firstBad (rowsOf (now table)) ≡ none) × Unplain (rowsOf (now table)) «tlve_start» option (now octets) (now rows) ⌝ }
+    ensures { λ r. ⌜ Reads (reading (now (table .entry)) «tlve_start» option (now (octets .entry)) (lentOf (now (rows .entry)) (now (kept .entry)) (now (order .entry)))) r (now (rows .exit)) (now (kept .exit)) (now (order .exit)) ⌝ }
+{
+    if octets.len() > MOST_OCTETS {
+        return Decoded::TooLong;
+    }
+    let n = 4 * places(table);
+    if rows.len() < n {
+        return Decoded::NoRoom(Room::Rows);
+    }
+    decode_elements(
+        octets,
+        table,
+        index,
+        tlve_start,
+        option,
+        n,
+        rows,
+        kept,
+        order,
+    )
+}
+
 // A part of which the table does not say all, with n numbers of rows.
 fn decode_elements(
     octets: &[u8],
@@ -108,6 +145,21 @@ fn decode_elements(
     requires { ⌜ Fits (now table) (now index) (now octets) (length (now rows)) × (plainIn (rowsOf (now table)) 0 (parted (rowsOf (now table)) «tlve_start» option (now octets)) ≡ false) × (n ≡ 4 * length (rowsOf (now table))) ⌝ }
     ensures { λ r. ⌜ Reads (reading (now (table .entry)) «tlve_start» option (now (octets .entry)) (lentOf (now (rows .entry)) (now (kept .entry)) (now (order .entry)))) r (now (rows .exit)) (now (kept .exit)) (now (order .exit)) ⌝ }
 {
+    if octets.len() <= MOST_SHORTEST {
+        if n <= MOST_SHORTEST {
+            return decode_shortest(
+                octets,
+                table,
+                index,
+                tlve_start,
+                option,
+                n,
+                rows,
+                kept,
+                order,
+            );
+        }
+    }
     if octets.len() <= MOST_SHORT {
         if n <= MOST_ROWS {
             return decode_short(
@@ -195,11 +247,12 @@ fn decode_p(
     kept: &mut [u8],
     order: &mut [u8],
 ) -> Decoded
+    requires { ⌜ plainHere 0 option (now octets) (now rows) ≡ false ⌝ }
     ensures { λ r. ⌜ Reads (reading (realOf 0) 112 option (now (octets .entry)) (lentOf (now (rows .entry)) (now (kept .entry)) (now (order .entry)))) r (now (rows .exit)) (now (kept .exit)) (now (order .exit)) ⌝ }
 {
     let table = table_p();
     let index = index_p();
-    decode_by_index(
+    decode_unplain(
         octets,
         &table,
         &index,
@@ -218,11 +271,12 @@ fn decode_registration_request(
     kept: &mut [u8],
     order: &mut [u8],
 ) -> Decoded
+    requires { ⌜ plainHere 1 option (now octets) (now rows) ≡ false ⌝ }
     ensures { λ r. ⌜ Reads (reading (realOf 1) 112 option (now (octets .entry)) (lentOf (now (rows .entry)) (now (kept .entry)) (now (order .entry)))) r (now (rows .exit)) (now (kept .exit)) (now (order .exit)) ⌝ }
 {
     let table = registration_request();
     let index = index_registration_request();
-    decode_by_index(
+    decode_unplain(
         octets,
         &table,
         &index,
@@ -241,11 +295,12 @@ fn decode_registration_accept(
     kept: &mut [u8],
     order: &mut [u8],
 ) -> Decoded
+    requires { ⌜ plainHere 2 option (now octets) (now rows) ≡ false ⌝ }
     ensures { λ r. ⌜ Reads (reading (realOf 2) 112 option (now (octets .entry)) (lentOf (now (rows .entry)) (now (kept .entry)) (now (order .entry)))) r (now (rows .exit)) (now (kept .exit)) (now (order .exit)) ⌝ }
 {
     let table = registration_accept();
     let index = index_registration_accept();
-    decode_by_index(
+    decode_unplain(
         octets,
         &table,
         &index,
@@ -264,11 +319,12 @@ fn decode_registration_reject(
     kept: &mut [u8],
     order: &mut [u8],
 ) -> Decoded
+    requires { ⌜ plainHere 3 option (now octets) (now rows) ≡ false ⌝ }
     ensures { λ r. ⌜ Reads (reading (realOf 3) 112 option (now (octets .entry)) (lentOf (now (rows .entry)) (now (kept .entry)) (now (order .entry)))) r (now (rows .exit)) (now (kept .exit)) (now (order .exit)) ⌝ }
 {
     let table = registration_reject();
     let index = index_registration_reject();
-    decode_by_index(
+    decode_unplain(
         octets,
         &table,
         &index,
@@ -287,11 +343,12 @@ fn decode_service_request(
     kept: &mut [u8],
     order: &mut [u8],
 ) -> Decoded
+    requires { ⌜ plainHere 4 option (now octets) (now rows) ≡ false ⌝ }
     ensures { λ r. ⌜ Reads (reading (realOf 4) 112 option (now (octets .entry)) (lentOf (now (rows .entry)) (now (kept .entry)) (now (order .entry)))) r (now (rows .exit)) (now (kept .exit)) (now (order .exit)) ⌝ }
 {
     let table = service_request();
     let index = index_service_request();
-    decode_by_index(
+    decode_unplain(
         octets,
         &table,
         &index,
@@ -310,11 +367,12 @@ fn decode_pdu_session_establishment_request(
     kept: &mut [u8],
     order: &mut [u8],
 ) -> Decoded
+    requires { ⌜ plainHere 5 option (now octets) (now rows) ≡ false ⌝ }
     ensures { λ r. ⌜ Reads (reading (realOf 5) 112 option (now (octets .entry)) (lentOf (now (rows .entry)) (now (kept .entry)) (now (order .entry)))) r (now (rows .exit)) (now (kept .exit)) (now (order .exit)) ⌝ }
 {
     let table = pdu_session_establishment_request();
     let index = index_pdu_session_establishment_request();
-    decode_by_index(
+    decode_unplain(
         octets,
         &table,
         &index,
@@ -333,11 +391,12 @@ fn decode_pdu_session_establishment_accept(
     kept: &mut [u8],
     order: &mut [u8],
 ) -> Decoded
+    requires { ⌜ plainHere 6 option (now octets) (now rows) ≡ false ⌝ }
     ensures { λ r. ⌜ Reads (reading (realOf 6) 112 option (now (octets .entry)) (lentOf (now (rows .entry)) (now (kept .entry)) (now (order .entry)))) r (now (rows .exit)) (now (kept .exit)) (now (order .exit)) ⌝ }
 {
     let table = pdu_session_establishment_accept();
     let index = index_pdu_session_establishment_accept();
-    decode_by_index(
+    decode_unplain(
         octets,
         &table,
         &index,
@@ -358,6 +417,7 @@ fn decode_numbered(
     kept: &mut [u8],
     order: &mut [u8],
 ) -> Decoded
+    requires { ⌜ plainHere number «out_of_sequence» (now octets) (now rows) ≡ false ⌝ }
     ensures { λ r. ⌜ Reads (readingBy number «out_of_sequence» (now (octets .entry)) (lentOf (now (rows .entry)) (now (kept .entry)) (now (order .entry)))) r (now (rows .exit)) (now (kept .exit)) (now (order .exit)) ⌝ }
 {
     match number {

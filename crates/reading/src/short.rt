@@ -17,10 +17,13 @@ ghost use Rattle.reading.specs.Fitting.{Fits};
 ghost use Rattle.plain_reading.specs.Plains.{plainIn};
 ghost use Rattle.reading.specs.Decodes.{lentOf, Reads};
 
-// The octets of a part, and the numbers of rows, that the arrays hold: no log needs more than twice the octets.
+// The octets of a part, and the numbers of rows, that the arrays hold: no log needs more than twice the octets. The arrays are of one of
+// two lengths, since they are cleared at each call.
 pub(crate) const MOST_SHORT: usize = 512;
 
 pub(crate) const MOST_ROWS: usize = 160;
+
+pub(crate) const MOST_SHORTEST: usize = 64;
 
 // The first n octets.
 fn copy_octets(out: &mut [u8], octets: &[u8], n: usize)
@@ -70,6 +73,50 @@ pub(crate) fn decode_short(
             copy_octets(kept, &aside, k);
             copy_octets(order, &entries, o);
             Decoded::Done(k, o)
+        }
+    }
+}
+
+// The same of one that the shorter arrays hold.
+pub(crate) fn decode_shortest(
+    octets: &[u8],
+    table: &[u32],
+    index: &[u8; 256],
+    tlve_start: u8,
+    option: bool,
+    n: usize,
+    rows: &mut [u32],
+    kept: &mut [u8],
+    order: &mut [u8],
+) -> Decoded
+    requires { ⌜ Fits (now table) (now index) (now octets) (length (now rows)) × (plainIn (rowsOf (now table)) 0 (parted (rowsOf (now table)) «tlve_start» option (now octets)) ≡ false) × (n ≡ 4 * length (rowsOf (now table))) × (n ≤ 64) × (length (now octets) ≤ 64) ⌝ }
+    ensures { λ r. ⌜ Reads (reading (now (table .entry)) «tlve_start» option (now (octets .entry)) (lentOf (now (rows .entry)) (now (kept .entry)) (now (order .entry)))) r (now (rows .exit)) (now (kept .exit)) (now (order .exit)) ⌝ }
+{
+    let mut found = [0u32; MOST_SHORTEST];
+    let mut aside = [0u8; 128];
+    let mut entries = [0u8; 128];
+    match fill_elements(
+        octets,
+        table,
+        index,
+        tlve_start,
+        option,
+        &mut found,
+        &mut aside,
+        &mut entries,
+    ) {
+        Measured::Cut(start, x, left, missing) => Decoded::CutShort(start, x, left, missing),
+        Measured::Needs(used, noted) => {
+            if kept.len() < used {
+                return Decoded::NoRoom(Room::Kept);
+            }
+            if order.len() < noted {
+                return Decoded::NoRoom(Room::Order);
+            }
+            copy_rows(rows, &found, n);
+            copy_octets(kept, &aside, used);
+            copy_octets(order, &entries, noted);
+            Decoded::Done(used, noted)
         }
     }
 }

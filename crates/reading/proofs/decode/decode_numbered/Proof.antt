@@ -10,27 +10,27 @@ use Rattle.reading.proofs.decode.decode_numbered.Statement.{statement}
 use Rattle.reading.proofs.decode.decode_numbered.Tie as tie
 
 decode-p-requires : tie.Need-decode-p-requires
-decode-p-requires c κs = search needs
+decode-p-requires c κs = rw (c .before .before .before .match .keys1) at (c .before .before .before .before .before .before .before .before .pre)
 
 decode-registration-request-requires : tie.Need-decode-registration-request-requires
-decode-registration-request-requires c κs = search needs
+decode-registration-request-requires c κs = rw (c .before .before .before .match .keys2) at (c .before .before .before .before .before .before .before .before .pre)
 
 decode-registration-accept-requires : tie.Need-decode-registration-accept-requires
-decode-registration-accept-requires c κs = search needs
+decode-registration-accept-requires c κs = rw (c .before .before .before .match .keys3) at (c .before .before .before .before .before .before .before .before .pre)
 
 decode-registration-reject-requires : tie.Need-decode-registration-reject-requires
-decode-registration-reject-requires c κs = search needs
+decode-registration-reject-requires c κs = rw (c .before .before .before .match .keys4) at (c .before .before .before .before .before .before .before .before .pre)
 
 decode-service-request-requires : tie.Need-decode-service-request-requires
-decode-service-request-requires c κs = search needs
+decode-service-request-requires c κs = rw (c .before .before .before .match .keys5) at (c .before .before .before .before .before .before .before .before .pre)
 
 decode-pdu-session-establishment-request-requires :
     tie.Need-decode-pdu-session-establishment-request-requires
-decode-pdu-session-establishment-request-requires c κs = search needs
+decode-pdu-session-establishment-request-requires c κs = rw (c .before .before .before .match .keys6) at (c .before .before .before .before .before .before .before .before .pre)
 
 decode-pdu-session-establishment-accept-requires :
     tie.Need-decode-pdu-session-establishment-accept-requires
-decode-pdu-session-establishment-accept-requires c κs = search needs
+decode-pdu-session-establishment-accept-requires c κs = rw (c .before .before .before .match .keys7) at (c .before .before .before .before .before .before .before .before .pre)
 
 same-length : tie.Need-same-length
 same-length c = search needs

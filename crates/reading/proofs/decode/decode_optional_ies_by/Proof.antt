@@ -21,7 +21,10 @@ returns : tie.Need-returns
 returns c = let a = c .before .before .before .before .before .before .before .before .before .args in by-plain (a .number) (a .out-of-sequence) (a .octets .now) (a .rows .now) (a .kept .now) (a .order .now) (rw (c .if1 .taken) at (c .before .before .before .decode-plain .ensures (a .out-of-sequence)))
 
 decode-numbered-requires : tie.Need-decode-numbered-requires
-decode-numbered-requires c κs = search needs
+decode-numbered-requires c κs =
+    let a = c .before .before .before .before .before .before .before .before .before .before .before .before .args in
+    let q = rw (c .before .before .before .if1 .left) at (c .before .before .before .before .before .before .decode-plain .ensures (a .out-of-sequence)) in
+    rw (q .rows-are) (sym (q .is))
 
 same-length-2 : tie.Need-same-length-2
 same-length-2 c = search needs

@@ -1,7 +1,9 @@
--- `decode_registration_accept` lends the table and its index to `decode_by_index`.
--- That the table passes is the rule of the constants.
+-- `decode_registration_accept` lends the table and its index to `decode_unplain`.
+-- That the table passes is the rule of the constants; that it does not say all of the part is known.
+use native.Mathlib.Omega.{arith}
 use Rattle.real.proofs.RealLaws.{real}
 use Rattle.rows.proofs.Indexed.{indexed}
+use Rattle.reading.proofs.Decoding.{unplain}
 use borrow.Author.Needs.{needs}
 use Rattle.reading.proofs.decode.decode_registration_accept.Statement.{statement}
 use Rattle.reading.proofs.decode.decode_registration_accept.Tie as tie
@@ -12,11 +14,11 @@ registration-accept-requires c κs = search needs
 index-registration-accept-requires : tie.Need-index-registration-accept-requires
 index-registration-accept-requires c κs = search needs
 
-slice-aggregate-decode-by-index : tie.Need-slice-aggregate-decode-by-index
-slice-aggregate-decode-by-index c = search needs
+slice-aggregate-decode-unplain : tie.Need-slice-aggregate-decode-unplain
+slice-aggregate-decode-unplain c = search needs
 
-decode-by-index-requires : tie.Need-decode-by-index-requires
-decode-by-index-requires c κs = (indexed _ _ (rw (c .before .before .before .before .before .before .registration-accept .ensures) (real 2 .passes)) (rw (c .before .before .before .before .before .before .registration-accept .ensures) (c .before .before .before .before .before .index-registration-accept .ensures)), rw (c .before .before .before .before .before .before .registration-accept .ensures) (real 2 .passes))
+decode-unplain-requires : tie.Need-decode-unplain-requires
+decode-unplain-requires c κs = (indexed _ _ (rw (c .before .before .before .before .before .before .registration-accept .ensures) (real 2 .passes)) (rw (c .before .before .before .before .before .before .registration-accept .ensures) (c .before .before .before .before .before .index-registration-accept .ensures)), rw (c .before .before .before .before .before .before .registration-accept .ensures) (real 2 .passes), rw (c .before .before .before .before .before .before .registration-accept .ensures) (unplain 2 (omega arith) (c .before .before .before .before .before .before .before .before .before .before .before .args .option) (c .before .before .before .before .before .before .before .before .before .before .before .args .octets .now) (c .before .before .before .before .before .before .before .before .before .before .before .args .rows .now) (c .before .before .before .before .before .before .before .before .before .before .before .pre)))
 
 same-length : tie.Need-same-length
 same-length c = search needs
@@ -28,7 +30,7 @@ same-length-3 : tie.Need-same-length-3
 same-length-3 c = search needs
 
 returns : tie.Need-returns
-returns c = rw (c .before .before .before .before .before .before .before .before .before .before .before .before .before .registration-accept .ensures) at (c .before .before .before .before .before .before .decode-by-index .ensures)
+returns c = rw (c .before .before .before .before .before .before .before .before .before .before .before .before .before .registration-accept .ensures) at (c .before .before .before .before .before .before .decode-unplain .ensures)
 
 pub decode-registration-accept-spec : {M : Type 1} → statement M
 decode-registration-accept-spec =
@@ -36,8 +38,8 @@ decode-registration-accept-spec =
     (tie.spec
     registration-accept-requires
     index-registration-accept-requires
-    slice-aggregate-decode-by-index
-    decode-by-index-requires
+    slice-aggregate-decode-unplain
+    decode-unplain-requires
     same-length
     same-length-2
     same-length-3

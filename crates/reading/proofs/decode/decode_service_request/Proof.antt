@@ -1,7 +1,9 @@
--- `decode_service_request` lends the table and its index to `decode_by_index`.
--- That the table passes is the rule of the constants.
+-- `decode_service_request` lends the table and its index to `decode_unplain`.
+-- That the table passes is the rule of the constants; that it does not say all of the part is known.
+use native.Mathlib.Omega.{arith}
 use Rattle.real.proofs.RealLaws.{real}
 use Rattle.rows.proofs.Indexed.{indexed}
+use Rattle.reading.proofs.Decoding.{unplain}
 use borrow.Author.Needs.{needs}
 use Rattle.reading.proofs.decode.decode_service_request.Statement.{statement}
 use Rattle.reading.proofs.decode.decode_service_request.Tie as tie
@@ -12,11 +14,11 @@ service-request-requires c κs = search needs
 index-service-request-requires : tie.Need-index-service-request-requires
 index-service-request-requires c κs = search needs
 
-slice-aggregate-decode-by-index : tie.Need-slice-aggregate-decode-by-index
-slice-aggregate-decode-by-index c = search needs
+slice-aggregate-decode-unplain : tie.Need-slice-aggregate-decode-unplain
+slice-aggregate-decode-unplain c = search needs
 
-decode-by-index-requires : tie.Need-decode-by-index-requires
-decode-by-index-requires c κs = (indexed _ _ (rw (c .before .before .before .before .before .before .service-request .ensures) (real 4 .passes)) (rw (c .before .before .before .before .before .before .service-request .ensures) (c .before .before .before .before .before .index-service-request .ensures)), rw (c .before .before .before .before .before .before .service-request .ensures) (real 4 .passes))
+decode-unplain-requires : tie.Need-decode-unplain-requires
+decode-unplain-requires c κs = (indexed _ _ (rw (c .before .before .before .before .before .before .service-request .ensures) (real 4 .passes)) (rw (c .before .before .before .before .before .before .service-request .ensures) (c .before .before .before .before .before .index-service-request .ensures)), rw (c .before .before .before .before .before .before .service-request .ensures) (real 4 .passes), rw (c .before .before .before .before .before .before .service-request .ensures) (unplain 4 (omega arith) (c .before .before .before .before .before .before .before .before .before .before .before .args .option) (c .before .before .before .before .before .before .before .before .before .before .before .args .octets .now) (c .before .before .before .before .before .before .before .before .before .before .before .args .rows .now) (c .before .before .before .before .before .before .before .before .before .before .before .pre)))
 
 same-length : tie.Need-same-length
 same-length c = search needs
@@ -28,7 +30,7 @@ same-length-3 : tie.Need-same-length-3
 same-length-3 c = search needs
 
 returns : tie.Need-returns
-returns c = rw (c .before .before .before .before .before .before .before .before .before .before .before .before .before .service-request .ensures) at (c .before .before .before .before .before .before .decode-by-index .ensures)
+returns c = rw (c .before .before .before .before .before .before .before .before .before .before .before .before .before .service-request .ensures) at (c .before .before .before .before .before .before .decode-unplain .ensures)
 
 pub decode-service-request-spec : {M : Type 1} → statement M
 decode-service-request-spec =
@@ -36,8 +38,8 @@ decode-service-request-spec =
     (tie.spec
     service-request-requires
     index-service-request-requires
-    slice-aggregate-decode-by-index
-    decode-by-index-requires
+    slice-aggregate-decode-unplain
+    decode-unplain-requires
     same-length
     same-length-2
     same-length-3
