@@ -1,16 +1,16 @@
 -- The answer for a part, by what it depends on in turn: whether there is a table, the part's length, the room for its rows, and whether
 -- the table says all of it. By the definition, test by test.
 use Prim.Native.Nat.{ℕ, _*_, _≤_, _<_}
-use mathlib.Core.Path.{_≡_, refl, sym, _∙_}
+use mathlib.Core.Path.{refl}
 use mathlib.Core.List.{List}
-use mathlib.Core.Bool.{Bool, true, false, _&&_}
+use mathlib.Core.Bool.{Bool, false}
 use borrow.Author.Tests.{lt-ltb, le-ltb, le-leb, lt-leb}
 use lib.ListN.{length}
 use Rattle.definitions.specs.Rows.{Row, rowsOf}
 use Rattle.definitions.specs.Tables.{startOf}
 use Rattle.definitions.specs.Elements.{Parted, parted}
 use Rattle.real.specs.Real.{realOf}
-use Rattle.plain_reading.specs.Plains.{plainIn, Plainly}
+use Rattle.plain_reading.specs.Plains.{Plainly}
 use Rattle.plain_reading.specs.ByNumber.{plainHere, PlainBy}
 
 module _ (n : ℕ) (option : Bool) (part rows : List ℕ) where

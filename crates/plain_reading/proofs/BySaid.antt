@@ -1,13 +1,12 @@
 -- An element in its turn, by what is said of its IEI: the laws of Lining, of a numbered table and its own index.
 -- Where nothing is said, the IEI has no place or is not its row's first; else the row is the one of its place.
 use Prim.Native.Nat.{ℕ, _≤_, _<_}
-use native.Mathlib.Omega.{arith}
 use mathlib.Core.Path.{_≡_, refl, ap, sym, _∙_}
 use mathlib.Core.List.{List}
 use mathlib.Core.Bool.{Bool, true, false}
 use mathlib.Core.Option.{Option, none, some}
 use lib.ListN.{length, getD, drop}
-use Rattle.definitions.specs.Rows.{Row, rowsOf, rowAt, form, formOf, ieiOf, firstIei, index}
+use Rattle.definitions.specs.Rows.{Row, rowsOf, rowAt, form, formOf, ieiOf, firstIei}
 use Rattle.definitions.specs.Length.{header, whole}
 use Rattle.definitions.specs.Elements.{taken, takenBy, parted}
 use Rattle.rows.specs.Numbers.{rowSaid}

@@ -2,7 +2,7 @@
 -- the row. By the definition of an entry, of a table that passes its check.
 use Prim.Native.Nat.{ℕ, zero, suc, _≤_, _<_}
 use native.Mathlib.Omega.{arith}
-use mathlib.Core.Path.{_≡_, refl, sym, _∙_}
+use mathlib.Core.Path.{_≡_, refl}
 use mathlib.Core.List.{List}
 use mathlib.Core.Bool.{Bool, true, false}
 use borrow.Author.Tests.{eqb-true, eqb-false}
@@ -18,7 +18,7 @@ use Rattle.rows.proofs.Indexed.{indexed, no-place, some-place}
 use Rattle.said.specs.Said.{nothingSaid, saidOfRow, saidBy, saidIn, saidOf}
 use Rattle.said.specs.declared.Said.{Said}
 
--- the index of a numbered table, which no call lays out
+-- the index of a numbered table; the pass by number has none in memory
 abbrev pub indexOf : ℕ → List ℕ
 indexOf n = index (rowsOf (realOf n))
 
@@ -53,13 +53,18 @@ module _ (n iei : ℕ) (octet : iei < 256) where
 
 -- ---- how many places there are
 
-pub few-real : (n : ℕ) → length (rowsOf (realOf n)) ≤ 40
+-- at most 40, and of a table that a number names one or more
+pub record Counted (n : ℕ) : Type 0 where
+  pub few : length (rowsOf (realOf n)) ≤ 40
+  pub has-row : n < 7 → 0 < length (rowsOf (realOf n))
+
+pub counted : (n : ℕ) → Counted n
 unfolding concat rowOf rowsF rowsOf tableOf row tableP optional1 optional2 optional3 optional4 optional5 optional6
-few-real zero = omega arith
-few-real (suc zero) = omega arith
-few-real (suc (suc zero)) = omega arith
-few-real (suc (suc (suc zero))) = omega arith
-few-real (suc (suc (suc (suc zero)))) = omega arith
-few-real (suc (suc (suc (suc (suc zero))))) = omega arith
-few-real (suc (suc (suc (suc (suc (suc zero)))))) = omega arith
-few-real (suc (suc (suc (suc (suc (suc (suc n))))))) = omega arith
+counted zero = record { few = omega arith; has-row = λ h. omega arith }
+counted (suc zero) = record { few = omega arith; has-row = λ h. omega arith }
+counted (suc (suc zero)) = record { few = omega arith; has-row = λ h. omega arith }
+counted (suc (suc (suc zero))) = record { few = omega arith; has-row = λ h. omega arith }
+counted (suc (suc (suc (suc zero)))) = record { few = omega arith; has-row = λ h. omega arith }
+counted (suc (suc (suc (suc (suc zero))))) = record { few = omega arith; has-row = λ h. omega arith }
+counted (suc (suc (suc (suc (suc (suc zero)))))) = record { few = omega arith; has-row = λ h. omega arith }
+counted (suc (suc (suc (suc (suc (suc (suc n))))))) = record { few = omega arith; has-row = λ h. absurd (omega arith) }

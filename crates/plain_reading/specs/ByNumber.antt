@@ -16,7 +16,7 @@ use Rattle.real.specs.Real.{realOf}
 use Rattle.said.specs.declared.Said.{Said}
 use Rattle.plain_reading.specs.Plains.{plainIn}
 
--- the numbers of a row by which reading judges an element
+-- the numbers of a row by which reading judges an element; the count and the greatest length are not the row's
 abbrev pub rowOfSaid : Said → ℕ → Numbers
 rowOfSaid s iei = record { count = 1; first = iei; code = s .code; size = s .size; least = s .least; greatest = 0; kinds = s .kinds }
 

@@ -1,16 +1,14 @@
--- A part of which the table says all: its rows, and what they are found in.
-use Prim.Native.Nat.{ℕ, _*_, _≤_}
+-- A part of which the table says all: whether it is one, and its rows.
+use Prim.Native.Nat.{ℕ}
 use mathlib.Core.Path.{_≡_}
 use mathlib.Core.List.{List}
 use mathlib.Core.Bool.{Bool, false}
 use mathlib.Core.Option.{Option, none, some}
-use lib.ListN.{length}
 use Rattle.definitions.specs.Basic.{pick, over}
-use Rattle.definitions.specs.Rows.{Row, rowsOf, firstBad}
+use Rattle.definitions.specs.Rows.{Row}
 use Rattle.definitions.specs.Elements.{Parted, elements, cutShort, elementsOf}
 use Rattle.definitions.specs.Logs.{plainFrom}
 use Rattle.definitions.specs.Reading.{placeRows}
-use Rattle.rows.specs.Indexed.{Indexed}
 use Rattle.plain_reading.specs.Entered.{enteredAll}
 
 -- whether the table says all of a part, where no place below the least may come

@@ -23,7 +23,8 @@ ghost use Rattle.real.specs.Real.{realOf};
 ghost use Rattle.plain_reading.specs.Plains.{plainRows, Plainly};
 ghost use Rattle.plain_reading.specs.ByNumber.{rowOfSaid, PlainBy};
 
-// The numbers of a row, by what is said of its first IEI. Reading asks for no other.
+// The numbers of a row that reading asks for, by what is said of its first IEI; the count of IEIs and the greatest length are not the
+// row's.
 fn row_of(said: Said, iei: u8) -> Numbers
     ensures { λ r. ⌜ r ≡ rowOfSaid said iei ⌝ }
 {
@@ -38,7 +39,7 @@ fn row_of(said: Said, iei: u8) -> Numbers
     }
 }
 
-// Four numbers of a row from a position on.
+// Four numbers of a row from a position on. As `set_row` of reading: it asks for room, so it is no function for another crate.
 fn set_row(rows: &mut [u32], at: usize, start: u32, len: u32, iei: u32)
     requires { ⌜ at + 4 ≤ length (now rows) ⌝ }
     ensures { λ r. ⌜ now (rows .exit) ≡ overAt at (1 ∷ start ∷ len ∷ iei ∷ []) (now (rows .entry)) ⌝ }

@@ -1,6 +1,6 @@
 -- Reading by what measuring and filling say: each answer of the code is the definition's, with the lent memory that it leaves.
 -- A refusal leaves all as it was; where reading is done, what was filled is the definition's.
-use Prim.Native.Nat.{ℕ, zero, suc, _+_, _*_, _≤_, _<_}
+use Prim.Native.Nat.{ℕ, _+_, _*_, _≤_, _<_}
 use native.Mathlib.Omega.{arith}
 use mathlib.Core.Path.{_≡_, refl, ap, sym, _∙_}
 use mathlib.Core.List.{List, []}
@@ -8,12 +8,12 @@ use mathlib.Core.Bool.{Bool, true, false, false≢true}
 use mathlib.Core.Option.{Option, none, some, Option·getD}
 use borrow.Author.Tests.{ltb-true, leb-true, lt-ltb, le-leb}
 use lib.ListN.{length}
-use Rattle.definitions.specs.Basic.{Answer, answer, over, mostOctets, concat}
-use Rattle.definitions.specs.Rows.{Row, rowOf, rowsF, rowsOf, firstBad}
+use Rattle.definitions.specs.Basic.{Answer, answer, over, mostOctets}
+use Rattle.definitions.specs.Rows.{Row, rowsF, rowsOf, firstBad}
 use Rattle.definitions.specs.Elements.{Element, Parted, elements, cutShort, elementsOf, parted}
 use Rattle.definitions.specs.Logs.{keptOf, entriesOf, orderOf}
 use Rattle.definitions.specs.Reading.{Lent, Read, unread, placeRows, readElements, reading, readingBy}
-use Rattle.definitions.specs.Tables.{tableOf, startOf, row, tableP, optional1, optional2, optional3, optional4, optional5, optional6}
+use Rattle.definitions.specs.Tables.{tableOf, startOf}
 use Rattle.definitions.proofs.PlainLaws.{kept-none}
 use Rattle.definitions.proofs.Readings.{read-long, read-rows, read-cut, read-kept, read-order, read-done}
 use Rattle.definitions.proofs.RowLaws.{both}
@@ -24,6 +24,7 @@ use Rattle.reading.specs.Measures.{measuredFrom, noTally}
 use Rattle.reading.specs.Fills.{exact, Ready, Written}
 use Rattle.plain_reading.specs.Plains.{plainIn, Plainly}
 use Rattle.plain_reading.specs.ByNumber.{plainHere, PlainBy}
+use Rattle.plain_reading.proofs.Says.{counted}
 use Rattle.reading.specs.Fitting.{Unplain}
 use Rattle.reading.specs.Decodes.{decodedAs, lentOf, Reads}
 use Rattle.reading.specs.declared.decode.Decoded.{Decoded}
@@ -198,19 +199,7 @@ by-plain n option part rows kept order q =
     moved (by-number n option part (lentOf rows kept order) (table-there n (ltb-true _ _ (a .0))))
     (all-plain (realOf n) startOf option part rows kept order (real n .passes) (leb-true _ _ (b .0)) (leb-true _ _ (c .0)) (record { is = sym (c .1); rows-are = q .rows-are }))
 
--- the table of a number has a row
-some-rows : (n : ℕ) → n < 7 → 0 < length (rowsOf (realOf n))
-unfolding concat rowOf rowsF rowsOf tableOf row tableP optional1 optional2 optional3 optional4 optional5 optional6
-some-rows zero h = omega arith
-some-rows (suc zero) h = omega arith
-some-rows (suc (suc zero)) h = omega arith
-some-rows (suc (suc (suc zero))) h = omega arith
-some-rows (suc (suc (suc (suc zero)))) h = omega arith
-some-rows (suc (suc (suc (suc (suc zero))))) h = omega arith
-some-rows (suc (suc (suc (suc (suc (suc zero)))))) h = omega arith
-some-rows (suc (suc (suc (suc (suc (suc (suc n))))))) h = absurd (omega arith)
-
 -- where the part is short enough and there is room, it is the table that does not say all
 pub unplain : (n : ℕ) → n < 7 → (option : Bool) (part rows : List ℕ) → plainHere n option part rows ≡ false → Unplain (rowsOf (realOf n)) startOf option part rows
 unfolding plainHere
-unplain n h option part rows e short room = rw (lt-ltb 0 _ (some-rows n h), le-leb _ 65535 short, le-leb _ (length rows) room) at e
+unplain n h option part rows e short room = rw (lt-ltb 0 _ (counted n .has-row h), le-leb _ 65535 short, le-leb _ (length rows) room) at e

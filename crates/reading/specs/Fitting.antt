@@ -1,4 +1,4 @@
--- What a pass over a part needs: the part is not too long, and there is room for its rows.
+-- What a pass over a part needs, and what is known of a part of which the table does not say all.
 use Prim.Native.Nat.{ℕ, _*_, _≤_}
 use mathlib.Core.Path.{_≡_}
 use mathlib.Core.Bool.{Bool, false}

@@ -96,7 +96,8 @@ fn decode_by_index(
     )
 }
 
-// The same of a part of which the table is known not to say all.
+// By such a table and its index, where it is known that the table does not say all of the part, unless that is too long or its rows have
+// no room.
 fn decode_unplain(
     octets: &[u8],
     table: &[u32],
@@ -408,7 +409,7 @@ fn decode_pdu_session_establishment_accept(
     )
 }
 
-// By table number, the table and its index laid out on the stack.
+// By table number, where the table does not say all of the part: the table and its index are laid out on the stack.
 fn decode_numbered(
     number: u32,
     octets: &[u8],

@@ -1,5 +1,6 @@
-// A part of which the table says all: every element is accepted, in table order, under its row's first IEI. One pass finds its rows,
-// before anything is written; its logs stay empty, whatever the start number and the option.
+// By a table and its index, a part of which the table says all (by number into two logs: crates/plain_reading): every element is
+// accepted, in table order, under its row's first IEI. One pass finds its rows, before anything is written; its logs stay empty,
+// whatever the start number and the option.
 use crate::fill::set_row;
 use elements::element::NO_PLACE;
 use elements::element::entry_of;

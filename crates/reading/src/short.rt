@@ -23,6 +23,7 @@ pub(crate) const MOST_SHORT: usize = 512;
 
 pub(crate) const MOST_ROWS: usize = 160;
 
+// Of the shorter arrays: both the octets and the numbers of rows.
 pub(crate) const MOST_SHORTEST: usize = 64;
 
 // The first n octets.
@@ -77,7 +78,7 @@ pub(crate) fn decode_short(
     }
 }
 
-// The same of one that the shorter arrays hold.
+// Such a part, where the shorter arrays hold it.
 pub(crate) fn decode_shortest(
     octets: &[u8],
     table: &[u32],

@@ -1,2 +1,2 @@
--- That no other key names a row, and no other number a table.
+-- That a key without an arm names no row, and a number over 6 no table.
 pub mod Unsaid

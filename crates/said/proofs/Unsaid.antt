@@ -2,14 +2,14 @@
 -- A key that is none of them is not among them, so that its IEI is no row's first.
 use Prim.Native.Nat.{ℕ, zero, suc, _+_, _*_, _/_, _%_, _<_}
 use native.Mathlib.Omega.{arith}
-use mathlib.Core.Path.{_≡_, refl, ap, sym, _∙_}
+use mathlib.Core.Path.{_≡_, refl, sym, _∙_}
 use mathlib.Core.List.{List, [], _∷_}
 use mathlib.Core.Bool.{Bool, true, false, _&&_, _||_, not, true≢false}
 use mathlib.Core.Option.{Option, none, some}
 use borrow.Author.Tests.{ne-eqb, eqb-true, eqb-false}
 use lib.ListN.{length}
 use lib.Dec.{eqb}
-use Rattle.definitions.specs.Basic.{pick, among, concat}
+use Rattle.definitions.specs.Basic.{among, concat}
 use Rattle.definitions.specs.Rows.{Row, rowOf, rowsF, rowsOf, ieis, rowAt, firstIei, placeFrom, placeOf}
 use Rattle.definitions.specs.Tables.{tableOf, row, tableP, optional1, optional2, optional3, optional4, optional5, optional6}
 use Rattle.definitions.proofs.RowLaws.{both}

@@ -1,11 +1,11 @@
-// What a numbered table says of an IEI that is a row's first, without the table laid out in memory: a `match` of numbers becomes a
-// table of the program's own, where a constant array is stored on the stack at each call.
+// What a numbered table says of an IEI that is a row's first, without the table laid out in memory: a `match` of numbers is a choice in
+// the program itself, while a constant array is stored on the stack at each call.
 ghost use mathlib.Core.Path.{_≡_};
 ghost use Prim.Native.Nat.{_/_, _%_};
 ghost use lib.ListN.{length};
 ghost use Rattle.said.specs.Said.{rowsBy, saidOf};
 
-// The place of the row, and of its numbers those by which reading judges an element; NO_PLACE and zeros of another IEI.
+// The place of the row, and of its numbers those by which reading judges an element; place 255 and zeros of another IEI.
 pub struct Said {
     pub place: usize,
     pub code: u32,
@@ -14,7 +14,7 @@ pub struct Said {
     pub kinds: u32,
 }
 
-// By 256 times the table's number and the IEI.
+// By a key: 256 times the table's number, and the IEI added.
 fn said_at(key: usize) -> Said
     ensures { λ r. ⌜ r ≡ saidOf (key / 256) (key % 256) ⌝ }
 {

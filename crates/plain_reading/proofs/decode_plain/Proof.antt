@@ -2,7 +2,7 @@
 -- A numbered table has 40 places at most.
 use native.Mathlib.Omega.{arith}
 use Rattle.definitions.specs.Tables.{startOf}
-use Rattle.plain_reading.proofs.Says.{few-real}
+use Rattle.plain_reading.proofs.Says.{counted}
 use Rattle.plain_reading.proofs.Answered.{without-table, too-long, without-room, with-room}
 use borrow.Author.Needs.{needs}
 use Rattle.plain_reading.proofs.decode_plain.Statement.{statement}
@@ -12,7 +12,7 @@ places-of-requires : tie.Need-places-of-requires
 places-of-requires c κs = search needs
 
 mul-n : tie.Need-mul-n
-mul-n c = omega (arith, c .places-of .ensures, few-real (c .before .before .before .args .number))
+mul-n c = omega (arith, c .places-of .ensures, counted (c .before .before .before .args .number) .few)
 
 returns : tie.Need-returns
 returns c option = let a = c .before .before .before .before .args in without-table (a .number) option (a .octets .now) (a .rows .now) (omega (arith, c .before .places-of .ensures, c .if1 .taken))
@@ -33,7 +33,7 @@ returns-4 : tie.Need-returns-4
 returns-4 c option = let a = c .before .before .before .before .before .before .before .before .before .before .before .args in with-room (a .number) option (a .octets .now) (a .rows .now) (omega (arith, c .before .before .before .before .before .before .before .before .places-of .ensures, c .before .before .before .before .before .before .before .if1 .left)) (omega arith) (omega (arith, c .before .before .before .before .before .before .before .before .places-of .ensures)) (c .before .before .plain-few .ensures startOf option)
 
 plain-more-requires : tie.Need-plain-more-requires
-plain-more-requires c κs = let p = c .before .before .before .before .before .places-of .ensures in (omega arith, omega (arith, p), omega (arith, p, few-real (c .before .before .before .before .before .before .before .before .args .number)), omega arith)
+plain-more-requires c κs = let p = c .before .before .before .before .before .places-of .ensures in (omega arith, omega (arith, p), omega (arith, p, counted (c .before .before .before .before .before .before .before .before .args .number) .few), omega arith)
 
 same-length-2 : tie.Need-same-length-2
 same-length-2 c = search needs

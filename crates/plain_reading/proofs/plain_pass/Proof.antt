@@ -2,7 +2,7 @@
 -- present rows, what the whole part gives, whatever the start number and the option. The measure is what is left of the part.
 use Prim.Native.Nat.{ℕ, _-_}
 use native.Mathlib.Omega.{arith}
-use mathlib.Core.Path.{_≡_, refl, ap, sym, _∙_}
+use mathlib.Core.Path.{_≡_, refl, ap, _∙_}
 use mathlib.Core.Bool.{Bool, false}
 use borrow.Author.Tests.{not-true, not-false}
 use lib.ListN.{length, getD, drop}

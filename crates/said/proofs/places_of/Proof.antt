@@ -1,6 +1,6 @@
 -- `places_of` counts the rows of each table, by computation.
 -- A number that names no table has no row.
-use mathlib.Core.Path.{_≡_, refl}
+use mathlib.Core.Path.{refl}
 use Rattle.definitions.specs.Basic.{concat}
 use Rattle.definitions.specs.Rows.{rowOf, rowsF, rowsOf}
 use Rattle.definitions.specs.Tables.{tableOf, row, tableP, optional1, optional2, optional3, optional4, optional5, optional6}

@@ -1,6 +1,6 @@
 -- `said_at` in each arm: the row that the key names, by computation.
 -- Another key names no row: one test over all IEIs of all tables.
-use mathlib.Core.Path.{_≡_, refl}
+use mathlib.Core.Path.{refl}
 use Rattle.definitions.specs.Basic.{among, concat}
 use Rattle.definitions.specs.Rows.{rowOf, rowsF, rowsOf, ieis, rowAt, firstIei, placeFrom, placeOf}
 use Rattle.definitions.specs.Tables.{tableOf, row, tableP, optional1, optional2, optional3, optional4, optional5, optional6}

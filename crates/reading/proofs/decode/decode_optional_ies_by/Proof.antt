@@ -1,10 +1,9 @@
 -- `decode_optional_ies_by` asks first whether the table says all of the part; if not, the table is laid out.
--- Where it says no, the rows are as they were.
-use mathlib.Core.Path.{_≡_, ap, sym, _∙_}
+-- Where `decode_plain` says no, the rows are as they were.
+use mathlib.Core.Path.{ap, sym}
 use mathlib.Core.List.{List}
 use Prim.Native.Nat.{ℕ}
 use Rattle.definitions.specs.Reading.{readingBy}
-use Rattle.plain_reading.specs.ByNumber.{PlainBy}
 use Rattle.reading.specs.Decodes.{lentOf}
 use Rattle.reading.proofs.Decoding.{by-plain, moved}
 use borrow.Author.Needs.{needs}
