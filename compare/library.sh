@@ -11,6 +11,10 @@ else
     echo "rt is not there: it makes libnas.a. NAS_LIB names one that is made, and compare/run --model needs none." >&2
     exit 2
   fi
+  if [[ $(uname -m) != x86_64 ]]; then
+    echo "rt makes libnas.a for x86-64, and this machine is $(uname -m). NAS_LIB names one that is made for it, and compare/run --model needs none." >&2
+    exit 2
+  fi
   (cd .. && rt staticlib nas)
   library=../target/staticlib/libnas.a
 fi

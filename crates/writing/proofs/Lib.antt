@@ -6,5 +6,5 @@ pub mod Tallying
 pub mod Surveying
 pub mod Walking
 pub mod Encoding
-pub mod Plaining
+pub mod Passing
 pub mod SameAnswers

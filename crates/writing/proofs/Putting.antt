@@ -1,24 +1,24 @@
--- A buffer that is written piece by piece: what is left of a piece, a step further and at the end; and which values can be written.
--- Each step regroups the pieces; the values go by the cases of their form.
-use Prim.Native.Nat.{ℕ, _+_, _-_, _%_, _≤_, _<_}
+-- A buffer that is written piece by piece: what is left of a piece, a step further and at the end; and the element of a present place.
+-- Each step regroups the pieces; an element fits, its IEI is free, and with room it is put.
+use Prim.Native.Nat.{ℕ, _+_, _-_, _≤_, _<_}
 use native.Mathlib.Omega.{arith}
 use mathlib.Core.Path.{_≡_, refl, ap, ap₂, sym, _∙_}
 use mathlib.Core.List.{List, [], _++_, append-nil}
-use mathlib.Core.Bool.{true, _||_}
-use borrow.Author.Tests.{eqb-true, leb-true}
-use lib.ListN.{length, getD, take, drop, length-append, length-take, length-drop}
-use lib.Seq.{take-all}
-use lib.Dec.{eqb, leb}
+use mathlib.Core.Bool.{true}
+use borrow.Author.Tests.{le-leb}
+use lib.ListN.{length, take, drop, length-append, length-take, length-drop}
 use borrow.Rule.Slice.PartMut.{putMid}
 use Rattle.definitions.specs.Basic.{over, overAt}
 use Rattle.definitions.specs.Rows.{Form, half, fixed, tlv, tlv-e, rowsOf, rowAt, form}
-use Rattle.definitions.specs.Values.{valueAt, octetsAt, fits}
+use Rattle.definitions.specs.Values.{valueAt, octetsAt}
 use Rattle.definitions.specs.Writing.{encoded, elementAt}
-use Rattle.definitions.proofs.RowLaws.{Bears, both}
-use Rattle.definitions.proofs.Lists.{over-next, over-none, lent-over, put-behind, length-over, length-overAt}
+use Rattle.definitions.proofs.RowLaws.{Bears}
+use Rattle.definitions.proofs.Lists.{over-next, over-none, lent-over, length-overAt}
 use Rattle.values.specs.Rows.{valueOf, sourcesOf}
 use Rattle.values.specs.declared.row.ValueRow.{ValueRow}
-use Rattle.writing.specs.Puts.{Writes, PutAt}
+use Rattle.putting.specs.Puts.{free, puts, PutIf}
+use Rattle.putting.proofs.Putting.{put-yes, all-there, whole}
+use Rattle.writing.specs.Puts.{PutAt}
 use Rattle.writing.specs.Walks.{filledOf, Writable, Left}
 use Rattle.writing.proofs.Places.{there, fits-there}
 
@@ -48,20 +48,9 @@ put-as e l = rw e at l
 
 -- ---- a part that was lent
 
--- what is put into a part that has room for it
-whole : (v x : List ℕ) {ys : List ℕ} → length v ≤ length x → ys ≡ over (take (length x) v) x → ys ≡ over v x
-whole v x h e = rw (take-all (length x) v h) at e
-
--- octets put behind a front that was stored
-pub put-value : (a v d : List ℕ) {c : ℕ} {d′ ys : List ℕ} → c ≡ length a → d′ ≡ over a d → length a + length v ≤ length d
-    → ys ≡ over (take (length (take (length d′ - c) (drop c d′))) v) (take (length d′ - c) (drop c d′)) → putMid c (length d′ - c) d′ ys ≡ over (a ++ v) d
-put-value a v d {c = c} {d′ = d′} i e h q =
-    let l : length d′ ≡ length d = ap length e ∙ length-over a d (omega arith) in
-    put-behind a v d i e (omega arith) (whole v (take (length d′ - c) (drop c d′)) (simp (length-take, length-drop) (omega arith)) q)
-
 -- octets, or an element, put from a position on
 module _ (at : ℕ) (v d : List ℕ) (room : at + length v ≤ length d) where
-  pub put-from : {n : ℕ} {ys : List ℕ} → n ≡ length v → ys ≡ over v (take (length d - at) (drop at d)) → PutAt at v d (at + n) (putMid at (length d - at) d ys)
+  put-from : {n : ℕ} {ys : List ℕ} → n ≡ length v → ys ≡ over v (take (length d - at) (drop at d)) → PutAt at v d (at + n) (putMid at (length d - at) d ys)
   put-from {n = n} {ys = ys} e q = record { behind = ap (λ (k : ℕ). at + k) e; octets = rw q (lent-over at v d (omega arith)) }
 
   pub put-octets : {n : ℕ} {ys : List ℕ} → n ≡ length v → ys ≡ over (take (length (take (length d - at) (drop at d))) v) (take (length d - at) (drop at d))
@@ -86,15 +75,13 @@ second-room {at = at} a b {d = d} h p =
 
 -- ---- values
 
-pub writes-fit : (f : Form) (source : ℕ) (s : List ℕ) (iei : ℕ) → fits f source s ≡ true → Bears f iei → Writes f iei s
-unfolding fits
-writes-fit half source s iei h b =
-    let l = eqb-true (length s) 1 (both (eqb (length s) 1) (eqb source 1 || leb (getD s 0 0) 15) h .0) in
-    let i : (128 ≤ iei) × (iei ≤ 255) × (iei % 16 ≡ 0) = b in
-    (omega arith, omega (arith, i .1, i .2))
-writes-fit (fixed n) source s iei h b = tt
-writes-fit tlv source s iei h b = leb-true (length s) 255 h
-writes-fit tlv-e source s iei h b = leb-true (length s) 65535 h
+-- an IEI of a form leaves the bits of a half octet free
+free-bears : (f : Form) (iei : ℕ) → Bears f iei → free f iei ≡ true
+unfolding free
+free-bears half iei b = le-leb iei 240 (omega (arith, b .1, b .2))
+free-bears (fixed n) iei b = refl
+free-bears tlv iei b = refl
+free-bears tlv-e iei b = refl
 
 -- an IEI of a form is an octet
 pub bears-octet : (f : Form) (iei : ℕ) → Bears f iei → iei < 256
@@ -108,8 +95,15 @@ module _ (table rows received set : List ℕ) (k iei : ℕ) (row : ValueRow) (e 
   abbrev f : Form
   f = form (rowAt (rowsOf table) k)
 
-  pub piece-there : {g : Form} {s : List ℕ} → g ≡ f → s ≡ octetsAt (sourcesOf received set) (valueOf row) → elementAt (filledOf table rows received set) k iei ≡ encoded g iei s
-  piece-there p q = rw (p, q) (there table rows received set k row e n iei)
+  module _ {g : Form} {s : List ℕ} (p : g ≡ f) (q : s ≡ octetsAt (sourcesOf received set) (valueOf row)) where
+    piece-there : elementAt (filledOf table rows received set) k iei ≡ encoded g iei s
+    piece-there = rw (p, q) (there table rows received set k row e n iei)
 
-  pub writes-there : {g : Form} {s : List ℕ} → Writable table rows received set → k < length (rowsOf table) → Bears f iei → g ≡ f → s ≡ octetsAt (sourcesOf received set) (valueOf row) → Writes g iei s
-  writes-there w h b p q = rw (p, q) (writes-fit f (row .source) (octetsAt (sourcesOf received set) (valueOf row)) iei (fits-there table rows received set k row e n (w .fit k h)) b)
+    -- with room for it, it is put
+    pub put-there : Writable table rows received set → k < length (rowsOf table) → Bears f iei → (at : ℕ) (d : List ℕ) {m : ℕ} {ys : List ℕ} → at + length (elementAt (filledOf table rows received set) k iei) ≤ length d
+        → PutIf (puts g (row .source) iei s (take (length d - at) (drop at d))) (encoded g iei s) (take (length d - at) (drop at d)) m ys
+        → PutAt at (elementAt (filledOf table rows received set) k iei) d (at + m) (putMid at (length d - at) d ys)
+    put-there w h b at d r i =
+        let l : at + length (encoded g iei s) ≤ length d = rw piece-there at r in
+        let y = put-yes (all-there g (row .source) iei s (take (length d - at) (drop at d)) (rw (p, q) (fits-there table rows received set k row e n (w .fit k h))) (rw p (free-bears f iei b)) (simp (length-take, length-drop) (omega arith))) i in
+        rw piece-there (put-from at (encoded g iei s) d l (y .0) (y .1))

@@ -3,4 +3,3 @@ pub mod Puts
 pub mod Walks
 pub mod Sizes
 pub mod Encodes
-pub mod Plains

@@ -1,6 +1,4 @@
 // Writing an optional part by a table.
-use crate::plain::Plain;
-use crate::plain::write_plain;
 use crate::sizes::Logged;
 use crate::sizes::Surveyed;
 use crate::sizes::Walked;
@@ -14,6 +12,8 @@ use kept::too_long;
 use logs::Kept;
 use logs::kept_len;
 use octets::MOST_OCTETS;
+use one_pass::Passed;
+use one_pass::write_pass;
 use real::index_p;
 use real::index_pdu_session_establishment_accept;
 use real::index_pdu_session_establishment_request;
@@ -141,7 +141,7 @@ fn encode_logged<'a>(
     }
 }
 
-// The same; where both logs are empty in one pass, if that reaches the end.
+// The same in one pass, if that reaches the end, and else measured first.
 fn encode_used<'a>(
     table: &[u32],
     index: &[u8],
@@ -155,9 +155,9 @@ fn encode_used<'a>(
     requires { ⌜ Limited (now table) (now index) (now rows) (now received) (now set) (now kept) (now order) ⌝ }
     ensures { λ r. ⌜ Encodes (writing (now (table .entry)) (now (rows .entry)) (now (received .entry)) (usedUp (now (set .entry))) (usedUp (now (order .entry))) (usedUp (now (kept .entry))) (now (output .entry))) r (now (output .exit)) ⌝ }
 {
-    match write_plain(table, rows, received, set, kept.len() + order.len(), output) {
-        Plain::At(n) => Encoded::Done(n),
-        Plain::Not => encode_logged(table, index, rows, received, set, kept, order, output),
+    match write_pass(table, index, rows, received, set, kept, order, output) {
+        Passed::To(n) => Encoded::Done(n),
+        Passed::Not => encode_logged(table, index, rows, received, set, kept, order, output),
     }
 }
 

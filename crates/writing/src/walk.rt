@@ -1,5 +1,4 @@
 // The walk over the order log that writes, once it is known that there is room. Each piece goes into the rest of the output.
-use crate::put::put_ie;
 use kept::Count;
 use kept::entry_at;
 use octets::put_slice;
@@ -7,6 +6,7 @@ use order::Front;
 use order::Placed;
 use order::entry_len;
 use order::front_at;
+use putting::put_ie;
 use rows::columns::form_of;
 use rows::columns::numbers_at;
 use rows::columns::places;
@@ -61,7 +61,14 @@ fn put_place<'a>(
     }
     let n = numbers_at(table, place);
     let value = value_octets(received, set, row);
-    at + put_ie(&mut output[at..], form_of(n.code, n.size), iei, value)
+    at
+        + put_ie(
+            &mut output[at..],
+            form_of(n.code, n.size),
+            row.source,
+            iei,
+            value,
+        )
 }
 
 // The element of a place under its first IEI, if it is an added one; the position behind it. It does what `put_place` does by itself: a
@@ -92,6 +99,7 @@ fn put_first<'a>(
         + put_ie(
             &mut output[at..],
             form_of(n.code, n.size),
+            row.source,
             n.first as u8,
             value,
         )

@@ -1,22 +1,21 @@
 -- `put_first` writes nothing of a place that is not in the set, or is absent, and of another its element under the first IEI.
--- That IEI is one of the place's form.
+-- That IEI is one of the place's form, so the element is put.
 use Prim.Native.Nat.{_<_}
 use native.Mathlib.Omega.{arith}
 use mathlib.Core.Path.{_≡_, ap, sym, _∙_}
 use borrow.Author.Tests.{not-true, not-false}
-use lib.ListN.{length, length-take, length-drop}
+use lib.ListN.{length}
 use Rattle.definitions.specs.Rows.{rowsOf, rowAt, form, firstIei}
-use Rattle.definitions.specs.Writing.{encoded, elementAt}
+use Rattle.definitions.specs.Writing.{elementAt}
 use Rattle.definitions.proofs.RowLaws.{Bears}
 use Rattle.definitions.proofs.TableLaws.{first-bears}
 use Rattle.definitions.proofs.Lists.{length-overAt}
-use Rattle.rows.specs.Forms.{formAs}
 use Rattle.rows.specs.declared.columns.Numbers.{Numbers}
 use Rattle.rows.proofs.WholeRows.{whole-rows}
 use Rattle.seen.specs.Seen.{setOf}
 use Rattle.writing.specs.Walks.{filledOf, addedPiece}
 use Rattle.writing.proofs.Places.{form-there, absent}
-use Rattle.writing.proofs.Putting.{piece-there, writes-there, put-nothing, put-from, bears-octet}
+use Rattle.writing.proofs.Putting.{put-nothing, bears-octet, put-there}
 use Rattle.writing.proofs.Cursor.{piece-added, piece-not}
 use borrow.Author.Needs.{needs}
 use Rattle.writing.proofs.walk.put_first.Statement.{statement}
@@ -66,20 +65,19 @@ form-of-requires c κs = search needs
 cast-put-ie : tie.Need-cast-put-ie
 cast-put-ie c = let o : c .before .before .before .before .numbers-at .result .first < 256 = bears-octet (form (rowAt (rowsOf (c .before .before .before .before .before .before .before .before .before .before .before .before .before .before .before .args .table .now)) (c .before .before .before .before .before .before .before .before .before .before .before .before .before .before .before .args .place))) (c .before .before .before .before .numbers-at .result .first) (bears (c .before .before .before .before)) in omega arith
 
--- the element, as the code has it
-piece : (c : tie.After-form-of) → addedPiece (filledOf (c .before .before .before .before .before .before .before .before .before .before .before .before .before .before .args .table .now) (c .before .before .before .before .before .before .before .before .before .before .before .before .before .before .args .rows .now) (c .before .before .before .before .before .before .before .before .before .before .before .before .before .before .args .received .now) (c .before .before .before .before .before .before .before .before .before .before .before .before .before .before .args .set .now)) (setOf (c .before .before .before .before .before .before .before .before .before .before .before .before .before .before .args .added)) (c .before .before .before .before .before .before .before .before .before .before .before .before .before .before .args .place) ≡ encoded (formAs (c .form-of .result)) (c .before .before .before .numbers-at .result .first) (c .before .before .value-octets .result .now)
-piece c = in-set (c .before .before .before .before .before .before) ∙ ap (elementAt (filledOf (c .before .before .before .before .before .before .before .before .before .before .before .before .before .before .args .table .now) (c .before .before .before .before .before .before .before .before .before .before .before .before .before .before .args .rows .now) (c .before .before .before .before .before .before .before .before .before .before .before .before .before .before .args .received .now) (c .before .before .before .before .before .before .before .before .before .before .before .before .before .before .args .set .now)) (c .before .before .before .before .before .before .before .before .before .before .before .before .before .before .args .place)) (sym (first-is (c .before .before .before))) ∙ piece-there (c .before .before .before .before .before .before .before .before .before .before .before .before .before .before .args .table .now) (c .before .before .before .before .before .before .before .before .before .before .before .before .before .before .args .rows .now) (c .before .before .before .before .before .before .before .before .before .before .before .before .before .before .args .received .now) (c .before .before .before .before .before .before .before .before .before .before .before .before .before .before .args .set .now) (c .before .before .before .before .before .before .before .before .before .before .before .before .before .before .args .place) (c .before .before .before .numbers-at .result .first) (c .before .before .before .before .before .before .row-at .result) (c .before .before .before .before .before .before .row-at .ensures) (c .before .before .before .before .if2 .left) (form-there (c .before .before .before .before .before .before .before .before .before .before .before .before .before .before .args .table .now) (c .before .before .before .before .before .before .before .before .before .before .before .before .before .before .args .place) (c .before .before .before .before .before .before .before .before .before .before .before .before .before .before .pre .0 .passes) (c .before .before .before .numbers-at .ensures) (c .form-of .ensures)) (c .before .before .value-octets .ensures .0)
-
 put-ie-requires : tie.Need-put-ie-requires
-put-ie-requires c κs = (writes-there (c .before .before .before .before .before .before .before .before .before .before .before .before .before .before .before .args .table .now) (c .before .before .before .before .before .before .before .before .before .before .before .before .before .before .before .args .rows .now) (c .before .before .before .before .before .before .before .before .before .before .before .before .before .before .before .args .received .now) (c .before .before .before .before .before .before .before .before .before .before .before .before .before .before .before .args .set .now) (c .before .before .before .before .before .before .before .before .before .before .before .before .before .before .before .args .place) (c .before .before .before .before .numbers-at .result .first) (c .before .before .before .before .before .before .before .row-at .result) (c .before .before .before .before .before .before .before .row-at .ensures) (c .before .before .before .before .before .if2 .left) (c .before .before .before .before .before .before .before .before .before .before .before .before .before .before .before .pre .0) (c .before .before .before .before .before .before .before .before .before .before .before .before .before .before .before .pre .1) (bears (c .before .before .before .before)) (form-there (c .before .before .before .before .before .before .before .before .before .before .before .before .before .before .before .args .table .now) (c .before .before .before .before .before .before .before .before .before .before .before .before .before .before .before .args .place) (c .before .before .before .before .before .before .before .before .before .before .before .before .before .before .before .pre .0 .passes) (c .before .before .before .before .numbers-at .ensures) (c .before .form-of .ensures)) (c .before .before .before .value-octets .ensures .0), simp (length-take, length-drop) (omega (arith, c .before .before .before .before .before .before .before .before .before .before .before .before .before .before .before .pre .2, ap length (piece (c .before)))))
+put-ie-requires c κs = search needs
 
-add-result : tie.Need-add-result
-add-result c = omega (arith, c .before .before .before .before .before .before .before .before .before .before .before .before .before .before .before .before .before .before .good, c .before .before .before .before .before .before .before .before .before .before .before .before .before .before .before .before .before .before .pre .2, c .before .before .put-ie .ensures .takes, ap length (piece (c .before .before .before .before)))
-
+-- the element, put
 written : tie.Need-returns-3
 written c =
-    let e = piece (c .before .before .before .before) in
-    rw e (put-from (c .before .before .before .before .before .before .before .before .before .before .before .before .before .before .before .before .before .before .args .at) _ (c .before .before .before .before .before .before .before .before .before .before .before .before .before .before .before .before .before .before .args .output .now) (omega (arith, c .before .before .before .before .before .before .before .before .before .before .before .before .before .before .before .before .before .before .pre .2, ap length e)) (c .before .before .put-ie .ensures .takes) (c .before .before .put-ie .ensures .octets))
+    let a = c .before .before .before .before .before .before .before .before .before .before .before .before .before .before .before .before .before .before .args in
+    let p = c .before .before .before .before .before .before .before .before .before .before .before .before .before .before .before .before .before .before .pre in
+    let e = in-set (c .before .before .before .before .before .before .before .before .before .before) ∙ ap (elementAt (filledOf (a .table .now) (a .rows .now) (a .received .now) (a .set .now)) (a .place)) (sym (first-is (c .before .before .before .before .before .before .before))) in
+    rw e (put-there (a .table .now) (a .rows .now) (a .received .now) (a .set .now) (a .place) (c .before .before .before .before .before .before .before .numbers-at .result .first) (c .before .before .before .before .before .before .before .before .before .before .row-at .result) (c .before .before .before .before .before .before .before .before .before .before .row-at .ensures) (c .before .before .before .before .before .before .before .before .if2 .left) (form-there (a .table .now) (a .place) (p .0 .passes) (c .before .before .before .before .before .before .before .numbers-at .ensures) (c .before .before .before .before .form-of .ensures)) (c .before .before .before .before .before .before .value-octets .ensures .0) (p .0) (p .1) (bears (c .before .before .before .before .before .before .before)) (a .at) (a .output .now) (omega (arith, p .2, ap length e)) (c .before .before .put-ie .ensures))
+
+add-result : tie.Need-add-result
+add-result c = omega (arith, c .before .before .before .before .before .before .before .before .before .before .before .before .before .before .before .before .before .before .good, c .before .before .before .before .before .before .before .before .before .before .before .before .before .before .before .before .before .before .pre .2, written c .behind)
 
 same-length : tie.Need-same-length
 same-length c = ap length (written c .octets) ∙ length-overAt (c .before .before .before .before .before .before .before .before .before .before .before .before .before .before .before .before .before .before .args .at) (addedPiece (filledOf (c .before .before .before .before .before .before .before .before .before .before .before .before .before .before .before .before .before .before .args .table .now) (c .before .before .before .before .before .before .before .before .before .before .before .before .before .before .before .before .before .before .args .rows .now) (c .before .before .before .before .before .before .before .before .before .before .before .before .before .before .before .before .before .before .args .received .now) (c .before .before .before .before .before .before .before .before .before .before .before .before .before .before .before .before .before .before .args .set .now)) (setOf (c .before .before .before .before .before .before .before .before .before .before .before .before .before .before .before .before .before .before .args .added)) (c .before .before .before .before .before .before .before .before .before .before .before .before .before .before .before .before .before .before .args .place)) (c .before .before .before .before .before .before .before .before .before .before .before .before .before .before .before .before .before .before .args .output .now) (c .before .before .before .before .before .before .before .before .before .before .before .before .before .before .before .before .before .before .pre .2)

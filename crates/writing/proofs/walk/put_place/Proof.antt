@@ -1,14 +1,13 @@
 -- `put_place` lends the rest of the output for the element of a present place.
--- The element is what its row says, in its form.
+-- The element is what its row says, in its form: it fits and has room, so it is put.
 use native.Mathlib.Omega.{arith}
-use mathlib.Core.Path.{_≡_, ap, _∙_}
-use lib.ListN.{length, length-take, length-drop}
-use Rattle.definitions.specs.Writing.{encoded, elementAt}
+use mathlib.Core.Path.{ap, _∙_}
+use lib.ListN.{length}
+use Rattle.definitions.specs.Writing.{elementAt}
 use Rattle.definitions.proofs.Lists.{length-overAt}
-use Rattle.rows.specs.Forms.{formAs}
 use Rattle.writing.specs.Walks.{filledOf}
 use Rattle.writing.proofs.Places.{form-there, absent}
-use Rattle.writing.proofs.Putting.{piece-there, writes-there, put-nothing, put-from}
+use Rattle.writing.proofs.Putting.{put-nothing, put-there}
 use borrow.Author.Needs.{needs}
 use Rattle.writing.proofs.walk.put_place.Statement.{statement}
 use Rattle.writing.proofs.walk.put_place.Tie as tie
@@ -37,22 +36,18 @@ part-put-ie-end c = search needs
 form-of-requires : tie.Need-form-of-requires
 form-of-requires c κs = search needs
 
--- the element, as the code has it
-piece : (c : tie.After-form-of) → elementAt (filledOf (c .before .before .before .before .before .before .before .before .before .before .before .before .args .table .now) (c .before .before .before .before .before .before .before .before .before .before .before .before .args .rows .now) (c .before .before .before .before .before .before .before .before .before .before .before .before .args .received .now) (c .before .before .before .before .before .before .before .before .before .before .before .before .args .set .now)) (c .before .before .before .before .before .before .before .before .before .before .before .before .args .place) (c .before .before .before .before .before .before .before .before .before .before .before .before .args .iei) ≡ encoded (formAs (c .form-of .result)) (c .before .before .before .before .before .before .before .before .before .before .before .before .args .iei) (c .before .before .value-octets .result .now)
-piece c = piece-there (c .before .before .before .before .before .before .before .before .before .before .before .before .args .table .now) (c .before .before .before .before .before .before .before .before .before .before .before .before .args .rows .now) (c .before .before .before .before .before .before .before .before .before .before .before .before .args .received .now) (c .before .before .before .before .before .before .before .before .before .before .before .before .args .set .now) (c .before .before .before .before .before .before .before .before .before .before .before .before .args .place) (c .before .before .before .before .before .before .before .before .before .before .before .before .args .iei) (c .before .before .before .before .before .before .row-at .result) (c .before .before .before .before .before .before .row-at .ensures) (c .before .before .before .before .if1 .left) (form-there (c .before .before .before .before .before .before .before .before .before .before .before .before .args .table .now) (c .before .before .before .before .before .before .before .before .before .before .before .before .args .place) (c .before .before .before .before .before .before .before .before .before .before .before .before .pre .0 .passes) (c .before .before .before .numbers-at .ensures) (c .form-of .ensures)) (c .before .before .value-octets .ensures .0)
-
 put-ie-requires : tie.Need-put-ie-requires
-put-ie-requires c κs = (writes-there (c .before .before .before .before .before .before .before .before .before .before .before .before .args .table .now) (c .before .before .before .before .before .before .before .before .before .before .before .before .args .rows .now) (c .before .before .before .before .before .before .before .before .before .before .before .before .args .received .now) (c .before .before .before .before .before .before .before .before .before .before .before .before .args .set .now) (c .before .before .before .before .before .before .before .before .before .before .before .before .args .place) (c .before .before .before .before .before .before .before .before .before .before .before .before .args .iei) (c .before .before .before .before .before .before .row-at .result) (c .before .before .before .before .before .before .row-at .ensures) (c .before .before .before .before .if1 .left) (c .before .before .before .before .before .before .before .before .before .before .before .before .pre .0) (c .before .before .before .before .before .before .before .before .before .before .before .before .pre .1) (c .before .before .before .before .before .before .before .before .before .before .before .before .pre .2) (form-there (c .before .before .before .before .before .before .before .before .before .before .before .before .args .table .now) (c .before .before .before .before .before .before .before .before .before .before .before .before .args .place) (c .before .before .before .before .before .before .before .before .before .before .before .before .pre .0 .passes) (c .before .before .before .numbers-at .ensures) (c .form-of .ensures)) (c .before .before .value-octets .ensures .0), simp (length-take, length-drop) (omega (arith, c .before .before .before .before .before .before .before .before .before .before .before .before .pre .3, ap length (piece c))))
+put-ie-requires c κs = search needs
 
-add-result : tie.Need-add-result
-add-result c =
-    let t : c .before .before .put-ie .result ≡ length (encoded (formAs (c .before .before .before .form-of .result)) (c .before .before .before .before .before .before .before .before .before .before .before .before .before .before .before .args .iei) (c .before .before .before .before .before .value-octets .result .now)) = c .before .before .put-ie .ensures .takes in
-    omega (arith, c .before .before .before .before .before .before .before .before .before .before .before .before .before .before .before .good, c .before .before .before .before .before .before .before .before .before .before .before .before .before .before .before .pre .3, ap length (piece (c .before .before .before)))
-
+-- the element, put
 written : tie.Need-returns-2
 written c =
-    let e = piece (c .before .before .before) in
-    rw e (put-from (c .before .before .before .before .before .before .before .before .before .before .before .before .before .before .before .args .at) _ (c .before .before .before .before .before .before .before .before .before .before .before .before .before .before .before .args .output .now) (omega (arith, c .before .before .before .before .before .before .before .before .before .before .before .before .before .before .before .pre .3, ap length e)) (c .before .before .put-ie .ensures .takes) (c .before .before .put-ie .ensures .octets))
+    let a = c .before .before .before .before .before .before .before .before .before .before .before .before .before .before .before .args in
+    let p = c .before .before .before .before .before .before .before .before .before .before .before .before .before .before .before .pre in
+    put-there (a .table .now) (a .rows .now) (a .received .now) (a .set .now) (a .place) (a .iei) (c .before .before .before .before .before .before .before .before .before .row-at .result) (c .before .before .before .before .before .before .before .before .before .row-at .ensures) (c .before .before .before .before .before .before .before .if1 .left) (form-there (a .table .now) (a .place) (p .0 .passes) (c .before .before .before .before .before .before .numbers-at .ensures) (c .before .before .before .form-of .ensures)) (c .before .before .before .before .before .value-octets .ensures .0) (p .0) (p .1) (p .2) (a .at) (a .output .now) (p .3) (c .before .before .put-ie .ensures)
+
+add-result : tie.Need-add-result
+add-result c = omega (arith, c .before .before .before .before .before .before .before .before .before .before .before .before .before .before .before .good, c .before .before .before .before .before .before .before .before .before .before .before .before .before .before .before .pre .3, written c .behind)
 
 same-length : tie.Need-same-length
 same-length c = ap length (written c .octets) ∙ length-overAt (c .before .before .before .before .before .before .before .before .before .before .before .before .before .before .before .args .at) (elementAt (filledOf (c .before .before .before .before .before .before .before .before .before .before .before .before .before .before .before .args .table .now) (c .before .before .before .before .before .before .before .before .before .before .before .before .before .before .before .args .rows .now) (c .before .before .before .before .before .before .before .before .before .before .before .before .before .before .before .args .received .now) (c .before .before .before .before .before .before .before .before .before .before .before .before .before .before .before .args .set .now)) (c .before .before .before .before .before .before .before .before .before .before .before .before .before .before .before .args .place) (c .before .before .before .before .before .before .before .before .before .before .before .before .before .before .before .args .iei)) (c .before .before .before .before .before .before .before .before .before .before .before .before .before .before .before .args .output .now) (c .before .before .before .before .before .before .before .before .before .before .before .before .before .before .before .pre .3)

@@ -1,0 +1,515 @@
+// A message written in one pass: each row is judged and its element put into an array, by the order log where there is one, and all is
+// copied out where there is room. The pass gives up where anything is amiss, where the order log names a place below one that it named
+// before, or where the array is too short: then nothing is written, and the message has to be measured first.
+use agreement::is_unlike;
+use kept::Count;
+use kept::entry_at;
+use octets::put_slice;
+use order::Front;
+use order::Placed;
+use order::entry_len;
+use order::front_at;
+use putting::put_ie;
+use rows::columns::form_of;
+use rows::columns::numbers_at;
+use rows::columns::places;
+use rows::index::Place;
+use rows::index::place_of;
+use values::row::is_good;
+use values::row::row_at;
+use values::row::value_octets;
+ghost use mathlib.Core.Path.{_≡_};
+ghost use Prim.Native.Nat.{_-_, _≤_, _<_};
+ghost use mathlib.Core.List.{[]};
+ghost use mathlib.Core.Bool.{_&&_};
+ghost use lib.ListN.{length, drop};
+ghost use lib.Dec.{leb};
+ghost use Rattle.definitions.specs.Basic.{over};
+ghost use Rattle.definitions.specs.Rows.{rowsOf};
+ghost use Rattle.definitions.specs.Logs.{knownIei, orderList, keptList};
+ghost use Rattle.rows.specs.Numbers.{numbersAt};
+ghost use Rattle.order.specs.Order.{placedAs};
+ghost use Rattle.one_pass.specs.Passes.{lentOf, pieceBy, ranged, concatBy, leftBy, passedBy, shortBy, capacity, PutBy, KeptBy, NextBy, KnownBy, EntryBy, EntriesBy, CopiedBy, WroteBy};
+
+// The most octets of a kept log that is looked at, and the longest of the two arrays.
+const MOST_SHORT: usize = 512;
+
+// The position behind what was written; or not written.
+pub enum Passed {
+    To(usize),
+    Not,
+}
+
+// Where a pass is: the position in the array, the position in the kept log, and the place below which every place was looked at.
+pub struct Pen {
+    pub at: usize,
+    pub kept: usize,
+    pub place: usize,
+}
+
+pub enum Went {
+    To(Pen),
+    Not,
+}
+
+// The element of a place under its first IEI, if the place is present.
+fn put_first<'a>(
+    table: &[u32],
+    rows: &[u32],
+    received: &'a [u8],
+    set: &'a [u8],
+    place: usize,
+    out: &mut [u8],
+    at: usize,
+) -> Passed
+    requires { ⌜ at ≤ length (now out) ⌝ }
+    ensures { λ r. ⌜ PutBy (pieceBy (lentOf (now (table .entry)) [] (now (rows .entry)) (now (received .entry)) (now (set .entry))) place (numbersAt (now (table .entry)) place .first)) at (now (out .entry)) r (now (out .exit)) ⌝ }
+{
+    let row = row_at(rows, place);
+    if !is_good(row, received, set) {
+        return Passed::Not;
+    }
+    if row.source == 0 {
+        return Passed::To(at);
+    }
+    let n = numbers_at(table, place);
+    if is_unlike(row, n.first) {
+        return Passed::Not;
+    }
+    if n.first > 255 {
+        return Passed::Not;
+    }
+    let value = value_octets(received, set, row);
+    let took = put_ie(
+        &mut out[at..],
+        form_of(n.code, n.size),
+        row.source,
+        n.first as u8,
+        value,
+    );
+    if took == 0 {
+        return Passed::Not;
+    }
+    Passed::To(at + took)
+}
+
+// The same under an IEI of the order log. It does by itself what `put_first` does: where both call one function, that is put into
+// neither, and a message without logs takes an eighth more.
+fn put_logged<'a>(
+    table: &[u32],
+    rows: &[u32],
+    received: &'a [u8],
+    set: &'a [u8],
+    place: usize,
+    iei: u8,
+    out: &mut [u8],
+    at: usize,
+) -> Passed
+    requires { ⌜ at ≤ length (now out) ⌝ }
+    ensures { λ r. ⌜ PutBy (pieceBy (lentOf (now (table .entry)) [] (now (rows .entry)) (now (received .entry)) (now (set .entry))) place iei) at (now (out .entry)) r (now (out .exit)) ⌝ }
+{
+    let row = row_at(rows, place);
+    if !is_good(row, received, set) {
+        return Passed::Not;
+    }
+    if row.source == 0 {
+        return Passed::To(at);
+    }
+    let n = numbers_at(table, place);
+    if is_unlike(row, iei as u32) {
+        return Passed::Not;
+    }
+    let value = value_octets(received, set, row);
+    let took = put_ie(
+        &mut out[at..],
+        form_of(n.code, n.size),
+        row.source,
+        iei,
+        value,
+    );
+    if took == 0 {
+        return Passed::Not;
+    }
+    Passed::To(at + took)
+}
+
+// The places from one on, up to another, each under its first IEI.
+fn put_between<'a>(
+    table: &[u32],
+    rows: &[u32],
+    received: &'a [u8],
+    set: &'a [u8],
+    from: usize,
+    to: usize,
+    out: &mut [u8],
+    start: usize,
+) -> Passed
+    requires { ⌜ start ≤ length (now out) ⌝ }
+    ensures { λ r. ⌜ PutBy (ranged (lentOf (now (table .entry)) [] (now (rows .entry)) (now (received .entry)) (now (set .entry))) from (to - from)) start (now (out .entry)) r (now (out .exit)) ⌝ }
+{
+    let mut at = start;
+    let mut k = from;
+    while k < to {
+        match put_first(table, rows, received, set, k, out, at) {
+            Passed::To(next) => {
+                at = next;
+                k += 1;
+            }
+            Passed::Not => {
+                return Passed::Not;
+            }
+        }
+    }
+    Passed::To(at)
+}
+
+// The next kept element.
+fn pass_kept(kept: &[u8], pen: Pen, out: &mut [u8]) -> Went
+    requires { ⌜ (pen .kept < length (now kept)) × (pen .at ≤ length (now out)) ⌝ }
+    ensures { λ r. ⌜ KeptBy (now (kept .entry)) pen (now (out .entry)) r (now (out .exit)) ⌝ }
+{
+    let at = pen.at;
+    let from = pen.kept;
+    match entry_at(&kept[from..]) {
+        Count::Is(value, took) => {
+            if out.len() - at < value {
+                return Went::Not;
+            }
+            let start = from + took;
+            let end = start + value;
+            put_slice(&mut out[at..], &kept[start..end]);
+            Went::To(Pen {
+                at: at + value,
+                kept: end,
+                place: pen.place,
+            })
+        }
+        Count::Not => Went::Not,
+    }
+}
+
+// The same where there may be none: most entries follow the one of the place before.
+fn put_lower<'a>(
+    table: &[u32],
+    rows: &[u32],
+    received: &'a [u8],
+    set: &'a [u8],
+    from: usize,
+    to: usize,
+    out: &mut [u8],
+    at: usize,
+) -> Passed
+    requires { ⌜ (from ≤ to) × (at ≤ length (now out)) ⌝ }
+    ensures { λ r. ⌜ PutBy (ranged (lentOf (now (table .entry)) [] (now (rows .entry)) (now (received .entry)) (now (set .entry))) from (to - from)) at (now (out .entry)) r (now (out .exit)) ⌝ }
+{
+    if from == to {
+        return Passed::To(at);
+    }
+    put_between(table, rows, received, set, from, to, out, at)
+}
+
+// The same, if there is one.
+fn pass_next(kept: &[u8], pen: Pen, out: &mut [u8]) -> Went
+    requires { ⌜ (pen .at ≤ length (now out)) × (pen .kept ≤ length (now kept)) ⌝ }
+    ensures { λ r. ⌜ NextBy (now (kept .entry)) pen (now (out .entry)) r (now (out .exit)) ⌝ }
+{
+    if pen.kept >= kept.len() {
+        return Went::To(pen);
+    }
+    pass_kept(kept, pen, out)
+}
+
+// A known entry: the places below its own that were not looked at, then its own under the logged IEI; nothing of an IEI without a place.
+fn pass_known<'a>(
+    table: &[u32],
+    index: &[u8],
+    rows: &[u32],
+    received: &'a [u8],
+    set: &'a [u8],
+    iei: u8,
+    pen: Pen,
+    out: &mut [u8],
+) -> Went
+    requires { ⌜ pen .at ≤ length (now out) ⌝ }
+    ensures { λ r. ⌜ KnownBy (lentOf (now (table .entry)) (now (index .entry)) (now (rows .entry)) (now (received .entry)) (now (set .entry))) iei pen (now (out .entry)) r (now (out .exit)) ⌝ }
+{
+    match place_of(index, iei) {
+        Place::At(k) => {
+            if k < pen.place {
+                return Went::Not;
+            }
+            match put_lower(table, rows, received, set, pen.place, k, out, pen.at) {
+                Passed::To(at) => {
+                    match put_logged(table, rows, received, set, k, iei, out, at) {
+                        Passed::To(next) => Went::To(Pen {
+                            at: next,
+                            kept: pen.kept,
+                            place: k + 1,
+                        }),
+                        Passed::Not => Went::Not,
+                    }
+                }
+                Passed::Not => Went::Not,
+            }
+        }
+        Place::Nowhere => Went::To(pen),
+    }
+}
+
+// An entry of the order log.
+fn pass_entry<'a>(
+    table: &[u32],
+    index: &[u8],
+    rows: &[u32],
+    received: &'a [u8],
+    set: &'a [u8],
+    kept: &[u8],
+    entry: Placed,
+    pen: Pen,
+    out: &mut [u8],
+) -> Went
+    requires { ⌜ (pen .at ≤ length (now out)) × (pen .kept ≤ length (now kept)) ⌝ }
+    ensures { λ r. ⌜ EntryBy (lentOf (now (table .entry)) (now (index .entry)) (now (rows .entry)) (now (received .entry)) (now (set .entry))) (now (kept .entry)) (placedAs entry) pen (now (out .entry)) r (now (out .exit)) ⌝ }
+{
+    match entry {
+        Placed::Known(iei) => pass_known(table, index, rows, received, set, iei, pen, out),
+        Placed::Unknown => pass_next(kept, pen, out),
+        Placed::Ignored(_) => pass_next(kept, pen, out),
+    }
+}
+
+// The whole order log.
+fn pass_entries<'a>(
+    table: &[u32],
+    index: &[u8],
+    rows: &[u32],
+    received: &'a [u8],
+    set: &'a [u8],
+    kept: &[u8],
+    order: &[u8],
+    out: &mut [u8],
+) -> Went
+    ensures { λ r. ⌜ EntriesBy (lentOf (now (table .entry)) (now (index .entry)) (now (rows .entry)) (now (received .entry)) (now (set .entry))) (now (order .entry)) (now (kept .entry)) (now (out .entry)) r (now (out .exit)) ⌝ }
+{
+    let mut pen = Pen {
+        at: 0,
+        kept: 0,
+        place: 0,
+    };
+    let mut from = 0;
+    while from < order.len() {
+        match front_at(&order[from..]) {
+            Front::Is(entry) => {
+                match pass_entry(table, index, rows, received, set, kept, entry, pen, out) {
+                    Went::To(next) => {
+                        pen = next;
+                        from += entry_len(entry);
+                    }
+                    Went::Not => {
+                        return Went::Not;
+                    }
+                }
+            }
+            Front::Not => {
+                return Went::Not;
+            }
+        }
+    }
+    Went::To(pen)
+}
+
+// The kept elements that are left.
+fn pass_left(kept: &[u8], pen: Pen, out: &mut [u8]) -> Passed
+    requires { ⌜ (pen .at ≤ length (now out)) × (pen .kept ≤ length (now kept)) ⌝ }
+    ensures { λ r. ⌜ PutBy (concatBy (keptList (drop (pen .kept) (now (kept .entry))))) (pen .at) (now (out .entry)) r (now (out .exit)) ⌝ }
+{
+    let mut p = pen;
+    while p.kept < kept.len() {
+        match pass_kept(kept, p, out) {
+            Went::To(next) => {
+                p = next;
+            }
+            Went::Not => {
+                return Passed::Not;
+            }
+        }
+    }
+    Passed::To(p.at)
+}
+
+// All of a message.
+fn pass<'a>(
+    table: &[u32],
+    index: &[u8],
+    rows: &[u32],
+    received: &'a [u8],
+    set: &'a [u8],
+    kept: &[u8],
+    order: &[u8],
+    out: &mut [u8],
+) -> Passed
+    ensures { λ r. ⌜ PutBy (passedBy (lentOf (now (table .entry)) (now (index .entry)) (now (rows .entry)) (now (received .entry)) (now (set .entry))) (now (order .entry)) (now (kept .entry))) 0 (now (out .entry)) r (now (out .exit)) ⌝ }
+{
+    match pass_entries(table, index, rows, received, set, kept, order, out) {
+        Went::To(pen) => {
+            match put_between(
+                table,
+                rows,
+                received,
+                set,
+                pen.place,
+                places(table),
+                out,
+                pen.at,
+            ) {
+                Passed::To(at) => pass_left(
+                    kept,
+                    Pen {
+                        at,
+                        kept: pen.kept,
+                        place: pen.place,
+                    },
+                    out,
+                ),
+                Passed::Not => Passed::Not,
+            }
+        }
+        Went::Not => Passed::Not,
+    }
+}
+
+// What was found, into the output, if it has room.
+fn copy_out(output: &mut [u8], found: &[u8], passed: Passed) -> Passed
+    ensures { λ r. ⌜ CopiedBy passed (now (found .entry)) (now (output .entry)) r (now (output .exit)) ⌝ }
+{
+    match passed {
+        Passed::To(n) => {
+            if found.len() < n {
+                return Passed::Not;
+            }
+            if output.len() < n {
+                return Passed::Not;
+            }
+            put_slice(output, &found[..n]);
+            Passed::To(n)
+        }
+        Passed::Not => Passed::Not,
+    }
+}
+
+// ---- the array is one of two lengths, since it is cleared at each call
+
+fn plain_few<'a>(
+    table: &[u32],
+    rows: &[u32],
+    received: &'a [u8],
+    set: &'a [u8],
+    output: &mut [u8],
+) -> Passed
+    ensures { λ r. ⌜ WroteBy 128 (ranged (lentOf (now (table .entry)) [] (now (rows .entry)) (now (received .entry)) (now (set .entry))) 0 (length (rowsOf (now (table .entry))))) (now (output .entry)) r (now (output .exit)) ⌝ }
+{
+    let mut found = [0u8; 128];
+    let passed = put_between(table, rows, received, set, 0, places(table), &mut found, 0);
+    copy_out(output, &found, passed)
+}
+
+fn plain_many<'a>(
+    table: &[u32],
+    rows: &[u32],
+    received: &'a [u8],
+    set: &'a [u8],
+    output: &mut [u8],
+) -> Passed
+    ensures { λ r. ⌜ WroteBy 512 (ranged (lentOf (now (table .entry)) [] (now (rows .entry)) (now (received .entry)) (now (set .entry))) 0 (length (rowsOf (now (table .entry))))) (now (output .entry)) r (now (output .exit)) ⌝ }
+{
+    let mut found = [0u8; 512];
+    let passed = put_between(table, rows, received, set, 0, places(table), &mut found, 0);
+    copy_out(output, &found, passed)
+}
+
+fn pass_few<'a>(
+    table: &[u32],
+    index: &[u8],
+    rows: &[u32],
+    received: &'a [u8],
+    set: &'a [u8],
+    kept: &[u8],
+    order: &[u8],
+    output: &mut [u8],
+) -> Passed
+    ensures { λ r. ⌜ WroteBy 128 (passedBy (lentOf (now (table .entry)) (now (index .entry)) (now (rows .entry)) (now (received .entry)) (now (set .entry))) (now (order .entry)) (now (kept .entry))) (now (output .entry)) r (now (output .exit)) ⌝ }
+{
+    let mut found = [0u8; 128];
+    let passed = pass(table, index, rows, received, set, kept, order, &mut found);
+    copy_out(output, &found, passed)
+}
+
+fn pass_many<'a>(
+    table: &[u32],
+    index: &[u8],
+    rows: &[u32],
+    received: &'a [u8],
+    set: &'a [u8],
+    kept: &[u8],
+    order: &[u8],
+    output: &mut [u8],
+) -> Passed
+    ensures { λ r. ⌜ WroteBy 512 (passedBy (lentOf (now (table .entry)) (now (index .entry)) (now (rows .entry)) (now (received .entry)) (now (set .entry))) (now (order .entry)) (now (kept .entry))) (now (output .entry)) r (now (output .exit)) ⌝ }
+{
+    let mut found = [0u8; 512];
+    let passed = pass(table, index, rows, received, set, kept, order, &mut found);
+    copy_out(output, &found, passed)
+}
+
+// Whether the shorter array is taken, by the places of the table and the octets of the kept log.
+fn is_few(places: usize, kept: usize) -> bool
+    ensures { λ r. ⌜ r ≡ (leb places 16 && leb kept 64) ⌝ }
+{
+    if places > 16 {
+        return false;
+    }
+    kept <= 64
+}
+
+// A message whose logs are both empty, as most are.
+fn write_plain<'a>(
+    table: &[u32],
+    rows: &[u32],
+    received: &'a [u8],
+    set: &'a [u8],
+    output: &mut [u8],
+) -> Passed
+    ensures { λ r. ⌜ WroteBy (capacity (length (rowsOf (now (table .entry)))) 0) (ranged (lentOf (now (table .entry)) [] (now (rows .entry)) (now (received .entry)) (now (set .entry))) 0 (length (rowsOf (now (table .entry))))) (now (output .entry)) r (now (output .exit)) ⌝ }
+{
+    if is_few(places(table), 0) {
+        return plain_few(table, rows, received, set, output);
+    }
+    plain_many(table, rows, received, set, output)
+}
+
+// A message into the output, all of it or nothing.
+pub fn write_pass<'a>(
+    table: &[u32],
+    index: &[u8],
+    rows: &[u32],
+    received: &'a [u8],
+    set: &'a [u8],
+    kept: &[u8],
+    order: &[u8],
+    output: &mut [u8],
+) -> Passed
+    ensures { λ r. ⌜ WroteBy (capacity (length (rowsOf (now (table .entry)))) (length (now (kept .entry)))) (shortBy (lentOf (now (table .entry)) (now (index .entry)) (now (rows .entry)) (now (received .entry)) (now (set .entry))) (now (order .entry)) (now (kept .entry))) (now (output .entry)) r (now (output .exit)) ⌝ }
+{
+    if order.len() == 0 {
+        if kept.len() == 0 {
+            return write_plain(table, rows, received, set, output);
+        }
+    }
+    if kept.len() > MOST_SHORT {
+        return Passed::Not;
+    }
+    if is_few(places(table), kept.len()) {
+        return pass_few(table, index, rows, received, set, kept, order, output);
+    }
+    pass_many(table, index, rows, received, set, kept, order, output)
+}
