@@ -1,6 +1,6 @@
 -- An element judged by its row, a test at a time, and put by what `put_ie` answers.
 -- Where that is 0, the value does not fit or has no room, since no element is empty.
-use Prim.Native.Nat.{ℕ, zero, suc, _+_, _-_, _≤_, _<_}
+use Prim.Native.Nat.{ℕ, _+_, _-_, _≤_, _<_}
 use native.Mathlib.Omega.{arith}
 use mathlib.Core.Path.{_≡_, refl, ap, _∙_}
 use mathlib.Core.List.{List, []}
@@ -37,21 +37,21 @@ abbrev lent : ℕ → List ℕ → List ℕ
 lent at d = take (length d - at) (drop at d)
 
 module _ (f : Form) (o : Octets) (v : Value) (iei : ℕ) where
-  pub judged-bad : goodValue o v ≡ false → judged f o v iei ≡ none
+  judged-bad : goodValue o v ≡ false → judged f o v iei ≡ none
   unfolding judged
   judged-bad e = rw e
 
   module _ (good : goodValue o v ≡ true) where
-    pub judged-absent : present v ≡ false → judged f o v iei ≡ some []
+    judged-absent : present v ≡ false → judged f o v iei ≡ some []
     unfolding judged
     judged-absent e = rw (good, e)
 
-    pub judged-unlike : present v ≡ true → unlike v iei ≡ true → judged f o v iei ≡ none
+    judged-unlike : present v ≡ true → unlike v iei ≡ true → judged f o v iei ≡ none
     unfolding judged
     judged-unlike p u = rw (good, p, u)
 
     module _ (there : present v ≡ true) (like : unlike v iei ≡ false) where
-      pub judged-large : 255 < iei → judged f o v iei ≡ none
+      judged-large : 255 < iei → judged f o v iei ≡ none
       unfolding judged
       judged-large h = rw (good, there, like, lt-leb iei 255)
 
@@ -94,24 +94,20 @@ module _ (f : Form) (o : Octets) (v : Value) (iei : ℕ) where
           abbrev l : Bool
           l = leb (length (encoded f iei s)) (length (lent at d))
 
-          pub put-zero : took ≡ 0 → {after : List ℕ} → PutBy (judged f o v iei) at d Passed.Not after
+          put-zero : took ≡ 0 → {after : List ℕ} → PutBy (judged f o v iei) at d Passed.Not after
           put-zero = by-zero w l refl refl
 
-          pub put-more : (took ≡ 0 → ⊥) → PutBy (judged f o v iei) at d (Passed.To (at + took)) (putMid at (length d - at) d ys)
+          put-more : (took ≡ 0 → ⊥) → PutBy (judged f o v iei) at d (Passed.To (at + took)) (putMid at (length d - at) d ys)
           put-more = by-more w l refl refl
 
-          pub took-inside : at + took ≤ length d
+          took-inside : at + took ≤ length d
           took-inside = by-inside w l refl refl
 
 -- ---- a place, by its row as the code has it
 
-above : (n : ℕ) → (n ≡ 0 → ⊥) → 1 ≤ n
-above zero h = absurd (h refl)
-above (suc n) h = omega arith
-
 module _ (table rows received set : List ℕ) (k iei : ℕ) (row : ValueRow) (e : valueOf row ≡ valueAt rows k) where
   abbrev piece : Option (List ℕ)
-  piece = pieceBy (lentOf table [] rows received set) k iei
+  piece = pieceBy (lentOf table rows received set) k iei
 
   abbrev o : Octets
   o = sourcesOf received set
@@ -134,7 +130,7 @@ module _ (table rows received set : List ℕ) (k iei : ℕ) (row : ValueRow) (e 
     module _ (there : row .source ≡ 0 → ⊥) where
       is-there : present (valueOf row) ≡ true
       unfolding present
-      is-there = le-leb 1 (row .source) (above (row .source) there)
+      is-there = le-leb 1 (row .source) (omega (arith, there))
 
       pub piece-unlike : unlike (valueOf row) iei ≡ true → {at : ℕ} {out after : List ℕ} → PutBy piece at out Passed.Not after
       piece-unlike u {at = at} {out = out} = put-not (none-not (length out) at (piece-is ∙ judged-unlike g o (valueOf row) iei good is-there u))

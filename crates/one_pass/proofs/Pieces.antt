@@ -11,9 +11,10 @@ use lib.ListN.{length, take, drop, length-append, length-take, length-drop}
 use lib.Dec.{leb}
 use borrow.Rule.Slice.PartMut.{putMid}
 use Rattle.definitions.specs.Basic.{pick, over, overAt}
+use Rattle.definitions.specs.Logs.{orEmpty}
 use Rattle.definitions.proofs.Lists.{over-next, over-none, lent-over, length-overAt}
 use Rattle.putting.proofs.Putting.{whole}
-use Rattle.one_pass.specs.Passes.{joined, heldTo, octetsOf, PutBy, Leads}
+use Rattle.one_pass.specs.Passes.{joined, heldTo, PutBy, Leads}
 use Rattle.one_pass.specs.declared.Passed.{Passed}
 
 -- a piece that was put is there and had room
@@ -26,7 +27,7 @@ pub record Held (piece : Option (List ℕ)) (at : ℕ) (before : List ℕ) (n : 
 
 module _ {at n : ℕ} {before after : List ℕ} where
   pub held : {piece : Option (List ℕ)} → PutBy piece at before (Passed.To n) after → Held piece at before n after
-  unfolding heldTo octetsOf
+  unfolding heldTo orEmpty
   held {piece = none} p = let e = p .answers in let z : _≡_ {A = ℕ} 0 1 = cc in absurd (omega arith)
   held {piece = some s} p = by (leb (at + length s) (length before)) refl (p .answers)
     where
@@ -45,7 +46,7 @@ module _ {at n : ℕ} {before after : List ℕ} where
 
 -- a piece that there is, put with room for it
 pub put-some : (s : List ℕ) {at : ℕ} {before after : List ℕ} → at + length s ≤ length before → after ≡ overAt at s before → PutBy (some s) at before (Passed.To (at + length s)) after
-unfolding heldTo octetsOf
+unfolding heldTo orEmpty
 put-some s {at = at} {before = before} h e = record { answers = rw (le-leb (at + length s) (length before)); octets = λ n q. e }
 
 -- nothing put
@@ -75,7 +76,7 @@ joined-none (some s) = refl
 
 module _ {a : Option (List ℕ)} {at mid : ℕ} {before middle : List ℕ} (p : PutBy a at before (Passed.To mid) middle) where
   pub put-then : (b : Option (List ℕ)) {r : Passed} {after : List ℕ} → PutBy b mid middle r after → PutBy (joined a b) at before r after
-  unfolding joined heldTo octetsOf
+  unfolding joined heldTo orEmpty
   put-then none q = rw (held p .piece-is) (record { answers = q .answers; octets = λ n e. let f = q .answers in let z : _≡_ {A = ℕ} 0 1 = cc in absurd (omega arith) })
   put-then (some t) {r = r} {after = after} q =
       let h = held p in

@@ -15,7 +15,7 @@ use Rattle.definitions.specs.Rows.{rowsOf, noPlace, placeIn}
 use Rattle.definitions.specs.Logs.{Placed, knownIei, notKnown, ignored, put, keptList, orderList}
 use Rattle.definitions.proofs.Logs.{kept-nil}
 use Rattle.rows.specs.Numbers.{numbersAt}
-use Rattle.one_pass.specs.Passes.{Lent, lentOf, joined, pieceBy, ranged, concatBy, passed, leftBy, passedBy, heldTo, PutBy, Leads, KeptNot, malformed, too-long, KeptBy, over-all, next-one, NextBy, KnownOn, KnownBy, EntryOn, EntryBy, Passing}
+use Rattle.one_pass.specs.Passes.{Lent, joined, pieceBy, ranged, concatBy, passed, leftBy, passedBy, heldTo, PutBy, Leads, KeptNot, malformed, too-long, KeptBy, over-all, next-one, NextBy, KnownOn, KnownBy, EntryOn, EntryBy, Passing}
 use Rattle.one_pass.specs.declared.Passed.{Passed}
 use Rattle.one_pass.specs.declared.Went.{Went}
 use Rattle.one_pass.specs.declared.Pen.{Pen}
@@ -32,52 +32,46 @@ pub ranged-over : (m : Lent) (k to : ℕ) → to ≤ k → ranged m k (to - k) �
 unfolding ranged
 ranged-over m k to h = let z : to - k ≡ 0 = omega arith in rw z
 
--- the places of a table go by no index
-pub ranged-any : (table rows received set a b : List ℕ) (n k : ℕ) → ranged (lentOf table a rows received set) k n ≡ ranged (lentOf table b rows received set) k n
-unfolding ranged pieceBy
-ranged-any table rows received set a b zero k = refl
-ranged-any table rows received set a b (suc n) k = ap (joined (pieceBy (lentOf table b rows received set) k (numbersAt table k .first))) (ranged-any table rows received set a b n (suc k))
-
 -- ---- what is left behind an entry
 
-module _ (m : Lent) where
-  left-none : (ps : Option (List Placed)) (c : ℕ) → leftBy m ps c none ≡ none
+-- an entry of an element that no row took
+abbrev Aside : Placed → Type 0
+Aside (knownIei i) = ⊥
+Aside notKnown = Unit
+Aside (ignored r) = Unit
+
+module _ (m : Lent) (ix : List ℕ) where
+  left-none : (ps : Option (List Placed)) (c : ℕ) → leftBy m ix ps c none ≡ none
   unfolding leftBy
   left-none none c = refl
   left-none (some ps) c = refl
 
-  passed-known : (i c : ℕ) (ps : List Placed) (ks : List (List ℕ)) {o : Option ℕ} → placeIn (m .entries) i ≡ o
-      → passed m (knownIei i ∷ ps) c ks ≡ elim o [ none ↦ passed m ps c ks | some k ↦ pick (ltb k c) none (joined (ranged m c (k - c)) (joined (pieceBy m k i) (passed m ps (suc k) ks))) ]
+  passed-known : (i c : ℕ) (ps : List Placed) (ks : List (List ℕ)) {o : Option ℕ} → placeIn ix i ≡ o
+      → passed m ix (knownIei i ∷ ps) c ks ≡ elim o [ none ↦ passed m ix ps c ks | some k ↦ pick (ltb k c) none (joined (ranged m c (k - c)) (joined (pieceBy m k i) (passed m ix ps (suc k) ks))) ]
   unfolding passed
-  passed-known i c ps ks e = ap (λ (x : Option ℕ). elim x [ none ↦ passed m ps c ks | some k ↦ pick (ltb k c) none (joined (ranged m c (k - c)) (joined (pieceBy m k i) (passed m ps (suc k) ks))) ]) e
+  passed-known i c ps ks e = ap (λ (x : Option ℕ). elim x [ none ↦ passed m ix ps c ks | some k ↦ pick (ltb k c) none (joined (ranged m c (k - c)) (joined (pieceBy m k i) (passed m ix ps (suc k) ks))) ]) e
 
   module _ (i c : ℕ) where
-    pub left-nowhere : placeIn (m .entries) i ≡ none → (ps : Option (List Placed)) (ks : Option (List (List ℕ))) → leftBy m (put (knownIei i) ps) c ks ≡ leftBy m ps c ks
+    left-nowhere : placeIn ix i ≡ none → (ps : Option (List Placed)) (ks : Option (List (List ℕ))) → leftBy m ix (put (knownIei i) ps) c ks ≡ leftBy m ix ps c ks
     unfolding leftBy put
     left-nowhere e none ks = refl
     left-nowhere e (some ps) none = refl
     left-nowhere e (some ps) (some ks) = passed-known i c ps ks e
 
-    module _ {k : ℕ} (e : placeIn (m .entries) i ≡ some k) where
-      pub left-lower : k < c → (ps : Option (List Placed)) (ks : Option (List (List ℕ))) → leftBy m (put (knownIei i) ps) c ks ≡ none
+    module _ {k : ℕ} (e : placeIn ix i ≡ some k) where
+      left-lower : k < c → (ps : Option (List Placed)) (ks : Option (List (List ℕ))) → leftBy m ix (put (knownIei i) ps) c ks ≡ none
       unfolding leftBy put
       left-lower h none ks = refl
       left-lower h (some ps) none = refl
       left-lower h (some ps) (some ks) = passed-known i c ps ks e ∙ rw (lt-ltb k c)
 
-      pub left-known : c ≤ k → (ps : Option (List Placed)) (ks : Option (List (List ℕ))) → leftBy m (put (knownIei i) ps) c ks ≡ joined (ranged m c (k - c)) (joined (pieceBy m k i) (leftBy m ps (k + 1) ks))
+      left-known : c ≤ k → (ps : Option (List Placed)) (ks : Option (List (List ℕ))) → leftBy m ix (put (knownIei i) ps) c ks ≡ joined (ranged m c (k - c)) (joined (pieceBy m k i) (leftBy m ix ps (k + 1) ks))
       unfolding leftBy put
       left-known h none ks = sym (ap (joined (ranged m c (k - c))) (joined-none (pieceBy m k i)) ∙ joined-none (ranged m c (k - c)))
       left-known h (some ps) none = sym (ap (joined (ranged m c (k - c))) (joined-none (pieceBy m k i)) ∙ joined-none (ranged m c (k - c)))
       left-known h (some ps) (some ks) = passed-known i c ps ks e ∙ rw (le-ltb k c, add-one)
 
-  -- an entry of an element that no row took
-  abbrev pub Aside : Placed → Type 0
-  Aside (knownIei i) = ⊥
-  Aside notKnown = Unit
-  Aside (ignored r) = Unit
-
-  left-kept : (e : Placed) → Aside e → (x : List ℕ) (ps : Option (List Placed)) (c : ℕ) (ks : Option (List (List ℕ))) → leftBy m (put e ps) c (put x ks) ≡ joined (some x) (leftBy m ps c ks)
+  left-kept : (e : Placed) → Aside e → (x : List ℕ) (ps : Option (List Placed)) (c : ℕ) (ks : Option (List (List ℕ))) → leftBy m ix (put e ps) c (put x ks) ≡ joined (some x) (leftBy m ix ps c ks)
   unfolding leftBy put passed joined
   left-kept (knownIei i) a x ps c ks = absurd a
   left-kept notKnown a x none c ks = refl
@@ -87,7 +81,7 @@ module _ (m : Lent) where
   left-kept (ignored r) a x (some ps) c none = refl
   left-kept (ignored r) a x (some ps) c (some ks) = refl
 
-  left-over : (e : Placed) → Aside e → (ps : Option (List Placed)) (c : ℕ) → leftBy m (put e ps) c (some []) ≡ leftBy m ps c (some [])
+  left-over : (e : Placed) → Aside e → (ps : Option (List Placed)) (c : ℕ) → leftBy m ix (put e ps) c (some []) ≡ leftBy m ix ps c (some [])
   unfolding leftBy put passed
   left-over (knownIei i) a ps c = absurd a
   left-over notKnown a none c = refl
@@ -96,7 +90,7 @@ module _ (m : Lent) where
   left-over (ignored r) a (some ps) c = refl
 
   -- at the end of the order log
-  pub left-end : (c : ℕ) (ks : Option (List (List ℕ))) → leftBy m (some []) c ks ≡ joined (ranged m c (length (rowsOf (m .table)) - c)) (concatBy ks)
+  left-end : (c : ℕ) (ks : Option (List (List ℕ))) → leftBy m ix (some []) c ks ≡ joined (ranged m c (length (rowsOf (m .table)) - c)) (concatBy ks)
   unfolding leftBy passed concatBy
   left-end c none = sym (joined-none (ranged m c (length (rowsOf (m .table)) - c)))
   left-end c (some ks) = refl
@@ -123,27 +117,27 @@ pub next-by : (kept : List ℕ) (p : Pen) (before after : List ℕ) (r : Went) �
 next-by kept p before after (Went.To q) k = next-one k
 next-by kept p before after Went.Not k = k
 
-module _ (m : Lent) (kept : List ℕ) (e : Placed) (a : Aside m e) (p : Pen) (before after : List ℕ) (inside : p .at ≤ length before) (within : p .kept ≤ length kept) where
-  over-turn : {q : Pen} → p .kept ≡ length kept → q ≡ p → after ≡ before → EntryOn m kept e p before q after
+module _ (m : Lent) (ix kept : List ℕ) (e : Placed) (a : Aside e) (p : Pen) (before after : List ℕ) (inside : p .at ≤ length before) (within : p .kept ≤ length kept) where
+  over-turn : {q : Pen} → p .kept ≡ length kept → q ≡ p → after ≡ before → EntryOn m ix kept e p before q after
   over-turn {q = q} h i j =
       let z : keptList (drop (p .kept) kept) ≡ some [] = kept-nil (drop (p .kept) kept) (simp length-drop (omega arith)) in
       rw (i, j)
       (record {
-        leads = λ ps. rw (z, left-over m e a ps (p .place)) leads-begun;
+        leads = λ ps. rw (z, left-over m ix e a ps (p .place)) leads-begun;
         inside = within;
         room = inside;
       })
 
-  pub aside-turn : (r : Went) → NextBy kept p before r after → EntryBy m kept e p before r after
+  pub aside-turn : (r : Went) → NextBy kept p before r after → EntryBy m ix kept e p before r after
   aside-turn (Went.To q) (over-all h i j) = over-turn h i j
   aside-turn (Went.To q) (next-one k) =
       record {
-        leads = λ ps. rw (k .place, k .rest, left-kept m e a (k .element) ps (p .place) (keptList (drop (q .kept) kept))) (leads-on (leftBy m ps (p .place) (keptList (drop (q .kept) kept))) leads-begun (k .holds));
+        leads = λ ps. rw (k .place, k .rest, left-kept m ix e a (k .element) ps (p .place) (keptList (drop (q .kept) kept))) (leads-on (leftBy m ix ps (p .place) (keptList (drop (q .kept) kept))) leads-begun (k .holds));
         inside = k .inside;
         room = held (k .holds) .room;
       }
-  aside-turn Went.Not (malformed z) = λ ps. none-not (length before) (p .at) (rw z (left-none m (put e ps) (p .place)))
-  aside-turn Went.Not (too-long x o s l) = λ ps. rw (s, left-kept m e a x ps (p .place) o) (put-stop (length before) (p .at) (some x) (leftBy m ps (p .place) o) (long-not (length before) (p .at) refl l))
+  aside-turn Went.Not (malformed z) = λ ps. none-not (length before) (p .at) (rw z (left-none m ix (put e ps) (p .place)))
+  aside-turn Went.Not (too-long x o s l) = λ ps. rw (s, left-kept m ix e a x ps (p .place) o) (put-stop (length before) (p .at) (some x) (leftBy m ix ps (p .place) o) (long-not (length before) (p .at) refl l))
 
 -- ---- a known entry
 
@@ -161,64 +155,50 @@ place-below ix i {k = k} h e = by (eqb (getD ix i noPlace) noPlace) e
     by true f = let z : _≡_ {A = ℕ} 0 1 = cc in absurd (omega arith)
     by false f = let z : getD ix i noPlace ≡ k = cc in omega (arith, getD-below ix i h)
 
-module _ (table entries rows received set : List ℕ) (i : ℕ) (p : Pen) (before : List ℕ) where
-  abbrev lent : Lent
-  lent = lentOf table entries rows received set
+module _ (m : Lent) (ix : List ℕ) (i : ℕ) (p : Pen) (before : List ℕ) where
+  pub nowhere-turn : p .at ≤ length before → placeIn ix i ≡ none → KnownOn m ix i p before p before
+  nowhere-turn h e = record { leads = λ ps ks. rw (left-nowhere m ix i (p .place) e ps ks) leads-begun; kept = refl; room = h }
 
-  abbrev bare : Lent
-  bare = lentOf table [] rows received set
-
-  piece-any : (k : ℕ) → pieceBy bare k i ≡ pieceBy lent k i
-  unfolding pieceBy
-  piece-any k = refl
-
-  pub nowhere-turn : p .at ≤ length before → placeIn entries i ≡ none → KnownOn lent i p before p before
-  nowhere-turn h e = record { leads = λ ps ks. rw (left-nowhere lent i (p .place) e ps ks) leads-begun; kept = refl; room = h }
-
-  module _ {k : ℕ} (e : placeIn entries i ≡ some k) where
-    pub lower-not : k < p .place → (ps : Option (List Placed)) (ks : Option (List (List ℕ))) → heldTo (length before) (p .at) (leftBy lent (put (knownIei i) ps) (p .place) ks) ≡ Passed.Not
-    lower-not h ps ks = none-not (length before) (p .at) (left-lower lent i (p .place) e h ps ks)
+  module _ {k : ℕ} (e : placeIn ix i ≡ some k) where
+    pub lower-not : k < p .place → (ps : Option (List Placed)) (ks : Option (List (List ℕ))) → heldTo (length before) (p .at) (leftBy m ix (put (knownIei i) ps) (p .place) ks) ≡ Passed.Not
+    lower-not h ps ks = none-not (length before) (p .at) (left-lower m ix i (p .place) e h ps ks)
 
     module _ (h : p .place ≤ k) where
-      pub between-not : {mid : List ℕ} → PutBy (ranged bare (p .place) (k - p .place)) (p .at) before Passed.Not mid → (ps : Option (List Placed)) (ks : Option (List (List ℕ)))
-          → heldTo (length before) (p .at) (leftBy lent (put (knownIei i) ps) (p .place) ks) ≡ Passed.Not
+      pub between-not : {mid : List ℕ} → PutBy (ranged m (p .place) (k - p .place)) (p .at) before Passed.Not mid → (ps : Option (List Placed)) (ks : Option (List (List ℕ)))
+          → heldTo (length before) (p .at) (leftBy m ix (put (knownIei i) ps) (p .place) ks) ≡ Passed.Not
       between-not b ps ks =
-          rw (left-known lent i (p .place) e h ps ks, ranged-any table rows received set entries [] (k - p .place) (p .place))
-          (put-stop (length before) (p .at) (ranged bare (p .place) (k - p .place)) (joined (pieceBy lent k i) (leftBy lent ps (k + 1) ks)) (sym (b .answers)))
+          rw (left-known m ix i (p .place) e h ps ks)
+          (put-stop (length before) (p .at) (ranged m (p .place) (k - p .place)) (joined (pieceBy m k i) (leftBy m ix ps (k + 1) ks)) (sym (b .answers)))
 
-      module _ {at : ℕ} {mid : List ℕ} (b : PutBy (ranged bare (p .place) (k - p .place)) (p .at) before (Passed.To at) mid) where
-        between : PutBy (ranged lent (p .place) (k - p .place)) (p .at) before (Passed.To at) mid
-        between = rw (ranged-any table rows received set entries [] (k - p .place) (p .place)) b
-
-        pub known-not : {after : List ℕ} → PutBy (pieceBy bare k i) at mid Passed.Not after → (ps : Option (List Placed)) (ks : Option (List (List ℕ)))
-            → heldTo (length before) (p .at) (leftBy lent (put (knownIei i) ps) (p .place) ks) ≡ Passed.Not
+      module _ {at : ℕ} {mid : List ℕ} (b : PutBy (ranged m (p .place) (k - p .place)) (p .at) before (Passed.To at) mid) where
+        pub known-not : {after : List ℕ} → PutBy (pieceBy m k i) at mid Passed.Not after → (ps : Option (List Placed)) (ks : Option (List (List ℕ)))
+            → heldTo (length before) (p .at) (leftBy m ix (put (knownIei i) ps) (p .place) ks) ≡ Passed.Not
         known-not {after = after} l ps ks =
-            let f : heldTo (length mid) at (pieceBy lent k i) ≡ Passed.Not = ap (heldTo (length mid) at) (sym (piece-any k)) ∙ sym (l .answers) in
-            rw (left-known lent i (p .place) e h ps ks)
-            (sym (put-then between (joined (pieceBy lent k i) (leftBy lent ps (k + 1) ks)) (put-not {after = after} (put-stop (length mid) at (pieceBy lent k i) (leftBy lent ps (k + 1) ks) f)) .answers))
+            rw (left-known m ix i (p .place) e h ps ks)
+            (sym (put-then b (joined (pieceBy m k i) (leftBy m ix ps (k + 1) ks)) (put-not {after = after} (put-stop (length mid) at (pieceBy m k i) (leftBy m ix ps (k + 1) ks) (sym (l .answers)))) .answers))
 
-        pub known-turn : {next : ℕ} {after : List ℕ} → PutBy (pieceBy bare k i) at mid (Passed.To next) after → KnownOn lent i p before (record { at = next; kept = p .kept; place = k + 1 }) after
+        pub known-turn : {next : ℕ} {after : List ℕ} → PutBy (pieceBy m k i) at mid (Passed.To next) after → KnownOn m ix i p before (record { at = next; kept = p .kept; place = k + 1 }) after
         known-turn l =
             record {
-              leads = λ ps ks. leads-on (leftBy lent ps (k + 1) ks) (leads-on (joined (pieceBy lent k i) (leftBy lent ps (k + 1) ks)) (leads-as (left-known lent i (p .place) e h ps ks) leads-begun) between) (rw (sym (piece-any k)) l);
+              leads = λ ps ks. leads-on (leftBy m ix ps (k + 1) ks) (leads-on (joined (pieceBy m k i) (leftBy m ix ps (k + 1) ks)) (leads-as (left-known m ix i (p .place) e h ps ks) leads-begun) b) l;
               kept = refl;
               room = omega (arith, held l .room, held-long b);
             }
 
   -- as an entry
-  pub known-by : (kept after : List ℕ) → p .kept ≤ length kept → (r : Went) → KnownBy lent i p before r after → EntryBy lent kept (knownIei i) p before r after
+  pub known-by : (kept after : List ℕ) → p .kept ≤ length kept → (r : Went) → KnownBy m ix i p before r after → EntryBy m ix kept (knownIei i) p before r after
   known-by kept after h (Went.To q) k = record { leads = λ ps. rw (k .kept) (k .leads ps (keptList (drop (p .kept) kept))); inside = omega (arith, k .kept); room = k .room }
   known-by kept after h Went.Not n = λ ps. n ps (keptList (drop (p .kept) kept))
 
 -- ---- the whole log
 
-module _ (m : Lent) (order kept before : List ℕ) where
-  pub passing-begun : Passing m order kept before (orderList (drop 0 order)) (record { at = 0; kept = 0; place = 0 }) before
+module _ (m : Lent) (ix order kept before : List ℕ) where
+  pub passing-begun : Passing m ix order kept before (orderList (drop 0 order)) (record { at = 0; kept = 0; place = 0 }) before
   unfolding passedBy
   passing-begun = record { leads = leads-begun; inside = omega arith; room = omega arith; long = refl }
 
-  module _ {o : Option (List Placed)} {p : Pen} {mid : List ℕ} (l : Passing m order kept before o p mid) where
-    pub passing-on : (e : Placed) (o′ : Option (List Placed)) → o ≡ put e o′ → {q : Pen} {after : List ℕ} → length after ≡ length mid → EntryOn m kept e p mid q after → Passing m order kept before o′ q after
+  module _ {o : Option (List Placed)} {p : Pen} {mid : List ℕ} (l : Passing m ix order kept before o p mid) where
+    pub passing-on : (e : Placed) (o′ : Option (List Placed)) → o ≡ put e o′ → {q : Pen} {after : List ℕ} → length after ≡ length mid → EntryOn m ix kept e p mid q after → Passing m ix order kept before o′ q after
     passing-on e o′ s {q = q} long t =
         record {
           leads = λ r after x. l .leads r after (rw s (t .leads o′ r after x));
@@ -227,29 +207,29 @@ module _ (m : Lent) (order kept before : List ℕ) where
           long = long ∙ l .long;
         }
 
-    pub passing-not : heldTo (length mid) (p .at) (leftBy m o (p .place) (keptList (drop (p .kept) kept))) ≡ Passed.Not → heldTo (length before) 0 (passedBy m order kept) ≡ Passed.Not
+    pub passing-not : heldTo (length mid) (p .at) (leftBy m ix o (p .place) (keptList (drop (p .kept) kept))) ≡ Passed.Not → heldTo (length before) 0 (passedBy m ix order kept) ≡ Passed.Not
     passing-not n = sym (l .leads Passed.Not mid (put-not n) .answers)
 
-    pub passing-stopped : o ≡ none → heldTo (length before) 0 (passedBy m order kept) ≡ Passed.Not
+    pub passing-stopped : o ≡ none → heldTo (length before) 0 (passedBy m ix order kept) ≡ Passed.Not
     unfolding leftBy
     passing-stopped e = passing-not (none-not (length mid) (p .at) (rw e))
 
-    pub passing-as : {o′ : Option (List Placed)} → o ≡ o′ → Passing m order kept before o′ p mid
+    pub passing-as : {o′ : Option (List Placed)} → o ≡ o′ → Passing m ix order kept before o′ p mid
     passing-as e = rw e at l
 
   -- behind the log: the places that are left, then the kept elements
-  module _ {p : Pen} {mid : List ℕ} (l : Passing m order kept before (some []) p mid) where
+  module _ {p : Pen} {mid : List ℕ} (l : Passing m ix order kept before (some []) p mid) where
     abbrev places : Option (List ℕ)
     places = ranged m (p .place) (length (rowsOf (m .table)) - p .place)
 
     abbrev elements : Option (List ℕ)
     elements = concatBy (keptList (drop (p .kept) kept))
 
-    at-end : Leads (passedBy m order kept) 0 before (joined places elements) (p .at) mid
-    at-end = leads-as (left-end m (p .place) (keptList (drop (p .kept) kept))) (l .leads)
+    at-end : Leads (passedBy m ix order kept) 0 before (joined places elements) (p .at) mid
+    at-end = leads-as (left-end m ix (p .place) (keptList (drop (p .kept) kept))) (l .leads)
 
-    pub places-not : {mid′ after : List ℕ} → PutBy places (p .at) mid Passed.Not mid′ → PutBy (passedBy m order kept) 0 before Passed.Not after
+    pub places-not : {mid′ after : List ℕ} → PutBy places (p .at) mid Passed.Not mid′ → PutBy (passedBy m ix order kept) 0 before Passed.Not after
     places-not b = leads-not elements at-end b
 
-    pub places-on : {next : ℕ} {mid′ : List ℕ} → PutBy places (p .at) mid (Passed.To next) mid′ → {r : Passed} {after : List ℕ} → PutBy elements next mid′ r after → PutBy (passedBy m order kept) 0 before r after
+    pub places-on : {next : ℕ} {mid′ : List ℕ} → PutBy places (p .at) mid (Passed.To next) mid′ → {r : Passed} {after : List ℕ} → PutBy elements next mid′ r after → PutBy (passedBy m ix order kept) 0 before r after
     places-on b {r = r} {after = after} k = leads-on elements at-end b r after k

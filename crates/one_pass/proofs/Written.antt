@@ -21,7 +21,7 @@ use Rattle.definitions.proofs.TableLaws.{index-same}
 use Rattle.rows.specs.Numbers.{numbersAt}
 use Rattle.rows.proofs.WholeRows.{whole-rows}
 use Rattle.values.specs.Rows.{sourcesOf}
-use Rattle.putting.specs.Puts.{free, writable}
+use Rattle.putting.specs.Puts.{addable, writable}
 use Rattle.one_pass.specs.Passes.{Lent, lentOf, joined, judged, pieceBy, ranged, passed, leftBy, passedBy}
 
 -- what writing makes of a message for which the pass gives octets
@@ -37,14 +37,14 @@ pub record Wholly (table rows received set order kept s : List ℕ) : Type 0 whe
 
 -- ---- what is there
 
-record Pieces (a b : Option (List ℕ)) (s : List ℕ) : Type 0 where
+record Both (a b : Option (List ℕ)) (s : List ℕ) : Type 0 where
   one : List ℕ
   two : List ℕ
   one-is : a ≡ some one
   two-is : b ≡ some two
   whole : one ++ two ≡ s
 
-pieces : (a b : Option (List ℕ)) {s : List ℕ} → joined a b ≡ some s → Pieces a b s
+pieces : (a b : Option (List ℕ)) {s : List ℕ} → joined a b ≡ some s → Both a b s
 unfolding joined
 pieces none b e = absurd (Option·none-ne-some _ e)
 pieces (some x) none e = absurd (Option·none-ne-some _ e)
@@ -129,7 +129,7 @@ judged-right f o v iei {e} h = let g = where-true (goodValue o v) h in by (prese
     by true q g i =
         let u = where-false (unlike v iei) i in
         let w = where-true (leb iei 255 && writable f (v .source) iei (octetsAt o v)) (u .1) in
-        let y = both (fits f (v .source) (octetsAt o v)) (free f iei) (both (leb iei 255) (writable f (v .source) iei (octetsAt o v)) (w .0) .1) in
+        let y = both (fits f (v .source) (octetsAt o v)) (addable f iei) (both (leb iei 255) (writable f (v .source) iei (octetsAt o v)) (w .0) .1) in
         (record { good = g; like = u .0; fit = rw (q, y .0) }, cc)
 
 module _ (table rows received set : List ℕ) (passes : firstBad (rowsOf table) ≡ none) where
@@ -143,7 +143,7 @@ module _ (table rows received set : List ℕ) (passes : firstBad (rowsOf table) 
   F = record { table = t; rows = rows; octets = sourcesOf received set }
 
   abbrev m : Lent
-  m = lentOf table (index t) rows received set
+  m = lentOf table rows received set
 
   abbrev RightAt : ℕ → ℕ → Type 0
   RightAt iei k = Right (form (rowAt t k)) (sourcesOf received set) (valueAt rows k) iei
@@ -198,7 +198,7 @@ module _ (table rows received set : List ℕ) (passes : firstBad (rowsOf table) 
               rw (z, d .low-is, u .1 js (λ j x y. b j x (λ w. omega arith) ∙ r .before j (omega arith) .0), v .1, d .high-is, y, r .octets js (λ j x. b j (omega arith) (λ w. omega arith)));
         }
 
-  rest : (ps : List Placed) (c : ℕ) (ks : List (List ℕ)) (s : List ℕ) → c ≤ n → passed m ps c ks ≡ some s → Rest (logged t ps) (ieiFor t ps) (λ a. walked F ps a ks) c s
+  rest : (ps : List Placed) (c : ℕ) (ks : List (List ℕ)) (s : List ℕ) → c ≤ n → passed m (index t) ps c ks ≡ some s → Rest (logged t ps) (ieiFor t ps) (λ a. walked F ps a ks) c s
   unfolding passed logged ieiFor walked among
   rest [] c ks s h e =
       let p = pieces (ranged m c (n - c)) (some (concat ks)) e in
@@ -207,32 +207,32 @@ module _ (table rows received set : List ℕ) (passes : firstBad (rowsOf table) 
   rest (knownIei i ∷ ps) c ks s h e = by (placeOf t i) refl (rw (index-same t passes i, passed) at e) (λ c′ s′. rest ps c′ ks s′)
     where
       by : (o : Option ℕ) → placeOf t i ≡ o
-          → elim o [ none ↦ passed m ps c ks | some k ↦ pick (ltb k c) none (joined (ranged m c (k - c)) (joined (pieceBy m k i) (passed m ps (suc k) ks))) ] ≡ some s
-          → ((c : ℕ) (s : List ℕ) → c ≤ n → passed m ps c ks ≡ some s → Rest (logged t ps) (ieiFor t ps) (λ a. walked F ps a ks) c s)
+          → elim o [ none ↦ passed m (index t) ps c ks | some k ↦ pick (ltb k c) none (joined (ranged m c (k - c)) (joined (pieceBy m k i) (passed m (index t) ps (suc k) ks))) ] ≡ some s
+          → ((c : ℕ) (s : List ℕ) → c ≤ n → passed m (index t) ps c ks ≡ some s → Rest (logged t ps) (ieiFor t ps) (λ a. walked F ps a ks) c s)
           → Rest (elim o [ none ↦ logged t ps | some k ↦ k ∷ logged t ps ]) (λ j. elim o [ none ↦ ieiFor t ps j | some k ↦ pick (eqb k j) i (ieiFor t ps j) ])
           (λ a. elim o [ none ↦ walked F ps a ks | some k ↦ firsts F (below k a) ++ (elementAt F k i ++ walked F ps (notBelow k a) ks) ]) c s
       by none q e r = r c s h e
       by (some k) q e r =
           let b = where-false (ltb k c) e in
-          let a = pieces (ranged m c (k - c)) (joined (pieceBy m k i) (passed m ps (suc k) ks)) (b .1) in
-          let d = pieces (pieceBy m k i) (passed m ps (suc k) ks) (a .two-is) in
+          let a = pieces (ranged m c (k - c)) (joined (pieceBy m k i) (passed m (index t) ps (suc k) ks)) (b .1) in
+          let d = pieces (pieceBy m k i) (passed m (index t) ps (suc k) ks) (a .two-is) in
           let l = listed t i k passes q .inside in
           let z : a .one ++ (d .one ++ d .two) ≡ s = cc in
           rw z at (known-first i k l (ltb-false k c (b .0)) (a .one-is) (d .one-is) (r (suc k) (d .two) l (d .two-is)))
   rest (notKnown ∷ ps) c [] s h e = rest ps c [] s h e
-  rest (notKnown ∷ ps) c (x ∷ ks) s h e = let p = pieces (some x) (passed m ps c ks) e in kept-first x (cc) (rest ps c ks (p .two) h (p .two-is))
+  rest (notKnown ∷ ps) c (x ∷ ks) s h e = let p = pieces (some x) (passed m (index t) ps c ks) e in kept-first x (cc) (rest ps c ks (p .two) h (p .two-is))
   rest (ignored r ∷ ps) c [] s h e = rest ps c [] s h e
-  rest (ignored r ∷ ps) c (x ∷ ks) s h e = let p = pieces (some x) (passed m ps c ks) e in kept-first x (cc) (rest ps c ks (p .two) h (p .two-is))
+  rest (ignored r ∷ ps) c (x ∷ ks) s h e = let p = pieces (some x) (passed m (index t) ps c ks) e in kept-first x (cc) (rest ps c ks (p .two) h (p .two-is))
 
 -- ---- the whole
 
 pub wholly : (table rows received set order kept : List ℕ) → firstBad (rowsOf table) ≡ none → {s : List ℕ}
-    → passedBy (lentOf table (index (rowsOf table)) rows received set) order kept ≡ some s → Wholly table rows received set order kept s
+    → passedBy (lentOf table rows received set) (index (rowsOf table)) order kept ≡ some s → Wholly table rows received set order kept s
 unfolding passedBy leftBy badRows apart apartAt unfit unfitAt written
 wholly table rows received set order kept passes {s} e = by (orderList order) (keptList kept) refl refl e
   where
     by : (a : Option (List Placed)) (b : Option (List (List ℕ))) → orderList order ≡ a → keptList kept ≡ b
-        → leftBy (lentOf table (index (rowsOf table)) rows received set) a 0 b ≡ some s → Wholly table rows received set order kept s
+        → leftBy (lentOf table rows received set) (index (rowsOf table)) a 0 b ≡ some s → Wholly table rows received set order kept s
     by none b p q e = absurd (Option·none-ne-some _ e)
     by (some ps) none p q e = absurd (Option·none-ne-some _ e)
     by (some ps) (some ks) p q e =

@@ -1,6 +1,6 @@
 -- A message written in one pass, place by place and entry by entry: what it is written as where its logs are well formed, the places that
 -- the order log names rise, and every row is well formed, agrees with the log and fits; else none. A pass goes by the numbers of a
--- table and by an index as they are lent; what it says of a table that passes and its own index is that of writing (crates/writing).
+-- table and by an index as they are lent. Where it gives octets, by a table that passes and its own index, they are those of writing: `wholly`.
 use Prim.Native.Nat.{ℕ, zero, suc, _+_, _-_, _≤_, _<_, min}
 use mathlib.Core.Path.{_≡_}
 use mathlib.Core.List.{List, [], _∷_, _++_}
@@ -11,7 +11,7 @@ use lib.Dec.{ltb, leb}
 use Rattle.definitions.specs.Basic.{pick, concat, over, overAt}
 use Rattle.definitions.specs.Rows.{Form, formOf, rowsOf, placeIn}
 use Rattle.definitions.specs.Values.{Octets, Value, valueAt, present, octetsAt, goodValue, unlike}
-use Rattle.definitions.specs.Logs.{Placed, knownIei, notKnown, ignored, keptList, orderList, put}
+use Rattle.definitions.specs.Logs.{Placed, knownIei, notKnown, ignored, keptList, orderList, orEmpty, put}
 use Rattle.definitions.specs.Writing.{encoded}
 use Rattle.rows.specs.Numbers.{numbersAt}
 use Rattle.values.specs.Rows.{sourcesOf}
@@ -20,15 +20,14 @@ use Rattle.one_pass.specs.declared.Passed.{Passed}
 use Rattle.one_pass.specs.declared.Went.{Went}
 use Rattle.one_pass.specs.declared.Pen.{Pen}
 
--- what is lent: the numbers of a table, an index, place rows, and the octets of their values
+-- what is lent of the places: the numbers of a table, place rows, and the octets of their values
 pub record Lent : Type 0 where
   pub table : List ℕ
-  pub entries : List ℕ
   pub rows : List ℕ
   pub octets : Octets
 
-abbrev pub lentOf : List ℕ → List ℕ → List ℕ → List ℕ → List ℕ → Lent
-lentOf table entries rows received set = record { table = table; entries = entries; rows = rows; octets = sourcesOf received set }
+abbrev pub lentOf : List ℕ → List ℕ → List ℕ → List ℕ → Lent
+lentOf table rows received set = record { table = table; rows = rows; octets = sourcesOf received set }
 
 -- one piece behind another, where both are there
 unfoldable pub joined : Option (List ℕ) → Option (List ℕ) → Option (List ℕ)
@@ -38,7 +37,7 @@ joined (some a) (some b) = some (a ++ b)
 
 -- ---- the places
 
--- the element of a value under an IEI; nothing of an absent one; none where its row is malformed or disagrees, or it does not fit
+-- the element of a value under an IEI; nothing of an absent one; none where its row is malformed or disagrees, or it cannot be written
 unfoldable pub judged : Form → Octets → Value → ℕ → Option (List ℕ)
 judged f o v iei =
     pick (goodValue o v)
@@ -58,24 +57,25 @@ ranged m k (suc n) = joined (pieceBy m k (numbersAt (m .table) k .first)) (range
 
 -- ---- the entries
 
--- what is written from a place on, by the entries and the kept elements that are left: before a known entry the places below its own
-unfoldable pub passed : Lent → List Placed → ℕ → List (List ℕ) → Option (List ℕ)
-passed m [] c ks = joined (ranged m c (length (rowsOf (m .table)) - c)) (some (concat ks))
-passed m (knownIei i ∷ ps) c ks =
-    elim (placeIn (m .entries) i) [
-      | none ↦ passed m ps c ks
-      | some k ↦ pick (ltb k c) none (joined (ranged m c (k - c)) (joined (pieceBy m k i) (passed m ps (suc k) ks)))
+-- what is written from a place on, by an index and by the entries and the kept elements that are left: before a known entry the places
+-- below its own
+unfoldable pub passed : Lent → List ℕ → List Placed → ℕ → List (List ℕ) → Option (List ℕ)
+passed m ix [] c ks = joined (ranged m c (length (rowsOf (m .table)) - c)) (some (concat ks))
+passed m ix (knownIei i ∷ ps) c ks =
+    elim (placeIn ix i) [
+      | none ↦ passed m ix ps c ks
+      | some k ↦ pick (ltb k c) none (joined (ranged m c (k - c)) (joined (pieceBy m k i) (passed m ix ps (suc k) ks)))
     ]
-passed m (notKnown ∷ ps) c [] = passed m ps c []
-passed m (notKnown ∷ ps) c (e ∷ ks) = joined (some e) (passed m ps c ks)
-passed m (ignored r ∷ ps) c [] = passed m ps c []
-passed m (ignored r ∷ ps) c (e ∷ ks) = joined (some e) (passed m ps c ks)
+passed m ix (notKnown ∷ ps) c [] = passed m ix ps c []
+passed m ix (notKnown ∷ ps) c (e ∷ ks) = joined (some e) (passed m ix ps c ks)
+passed m ix (ignored r ∷ ps) c [] = passed m ix ps c []
+passed m ix (ignored r ∷ ps) c (e ∷ ks) = joined (some e) (passed m ix ps c ks)
 
 -- the same of what is left of two logs, of which either may be malformed
-unfoldable pub leftBy : Lent → Option (List Placed) → ℕ → Option (List (List ℕ)) → Option (List ℕ)
-leftBy m none c ks = none
-leftBy m (some ps) c none = none
-leftBy m (some ps) c (some ks) = passed m ps c ks
+unfoldable pub leftBy : Lent → List ℕ → Option (List Placed) → ℕ → Option (List (List ℕ)) → Option (List ℕ)
+leftBy m ix none c ks = none
+leftBy m ix (some ps) c none = none
+leftBy m ix (some ps) c (some ks) = passed m ix ps c ks
 
 -- all kept elements that are left
 unfoldable pub concatBy : Option (List (List ℕ)) → Option (List ℕ)
@@ -83,8 +83,8 @@ concatBy none = none
 concatBy (some ks) = some (concat ks)
 
 -- of two whole logs
-unfoldable pub passedBy : Lent → List ℕ → List ℕ → Option (List ℕ)
-passedBy m order kept = leftBy m (orderList order) 0 (keptList kept)
+unfoldable pub passedBy : Lent → List ℕ → List ℕ → List ℕ → Option (List ℕ)
+passedBy m ix order kept = leftBy m ix (orderList order) 0 (keptList kept)
 
 -- ---- what is put into a buffer
 
@@ -93,15 +93,10 @@ unfoldable pub heldTo : ℕ → ℕ → Option (List ℕ) → Passed
 heldTo room at none = Passed.Not
 heldTo room at (some s) = pick (leb (at + length s) room) (Passed.To (at + length s)) Passed.Not
 
--- the octets of a piece
-unfoldable pub octetsOf : Option (List ℕ) → List ℕ
-octetsOf none = []
-octetsOf (some s) = s
-
 -- a piece put from a position on, all of it, or not; of a buffer into which it was not put nothing is said
 pub record PutBy (piece : Option (List ℕ)) (at : ℕ) (before : List ℕ) (r : Passed) (after : List ℕ) : Type 0 where
   pub answers : r ≡ heldTo (length before) at piece
-  pub octets : (n : ℕ) → r ≡ Passed.To n → after ≡ overAt at (octetsOf piece) before
+  pub octets : (n : ℕ) → r ≡ Passed.To n → after ≡ overAt at (orEmpty piece) before
 
 -- what is left of a piece: whatever becomes of it from there, becomes of the whole
 abbrev pub Leads : Option (List ℕ) → ℕ → List ℕ → Option (List ℕ) → ℕ → List ℕ → Type 0
@@ -137,38 +132,38 @@ NextBy kept p before (Went.To q) after = NextPut kept p before q after
 NextBy kept p before Went.Not after = KeptNot kept p (length before)
 
 -- behind a known entry, whatever is left of both logs
-pub record KnownOn (m : Lent) (i : ℕ) (p : Pen) (before : List ℕ) (q : Pen) (after : List ℕ) : Type 0 where
-  pub leads : (ps : Option (List Placed)) (ks : Option (List (List ℕ))) → Leads (leftBy m (put (knownIei i) ps) (p .place) ks) (p .at) before (leftBy m ps (q .place) ks) (q .at) after
+pub record KnownOn (m : Lent) (ix : List ℕ) (i : ℕ) (p : Pen) (before : List ℕ) (q : Pen) (after : List ℕ) : Type 0 where
+  pub leads : (ps : Option (List Placed)) (ks : Option (List (List ℕ))) → Leads (leftBy m ix (put (knownIei i) ps) (p .place) ks) (p .at) before (leftBy m ix ps (q .place) ks) (q .at) after
   pub kept : q .kept ≡ p .kept
   pub room : q .at ≤ length before
 
-abbrev pub KnownBy : Lent → ℕ → Pen → List ℕ → Went → List ℕ → Type 0
-KnownBy m i p before (Went.To q) after = KnownOn m i p before q after
-KnownBy m i p before Went.Not after =
-    (ps : Option (List Placed)) (ks : Option (List (List ℕ))) → heldTo (length before) (p .at) (leftBy m (put (knownIei i) ps) (p .place) ks) ≡ Passed.Not
+abbrev pub KnownBy : Lent → List ℕ → ℕ → Pen → List ℕ → Went → List ℕ → Type 0
+KnownBy m ix i p before (Went.To q) after = KnownOn m ix i p before q after
+KnownBy m ix i p before Went.Not after =
+    (ps : Option (List Placed)) (ks : Option (List (List ℕ))) → heldTo (length before) (p .at) (leftBy m ix (put (knownIei i) ps) (p .place) ks) ≡ Passed.Not
 
 -- behind any entry, by what is left of the kept log
-pub record EntryOn (m : Lent) (kept : List ℕ) (e : Placed) (p : Pen) (before : List ℕ) (q : Pen) (after : List ℕ) : Type 0 where
+pub record EntryOn (m : Lent) (ix : List ℕ) (kept : List ℕ) (e : Placed) (p : Pen) (before : List ℕ) (q : Pen) (after : List ℕ) : Type 0 where
   pub leads : (ps : Option (List Placed))
-      → Leads (leftBy m (put e ps) (p .place) (keptList (drop (p .kept) kept))) (p .at) before (leftBy m ps (q .place) (keptList (drop (q .kept) kept))) (q .at) after
+      → Leads (leftBy m ix (put e ps) (p .place) (keptList (drop (p .kept) kept))) (p .at) before (leftBy m ix ps (q .place) (keptList (drop (q .kept) kept))) (q .at) after
   pub inside : q .kept ≤ length kept
   pub room : q .at ≤ length before
 
-abbrev pub EntryBy : Lent → List ℕ → Placed → Pen → List ℕ → Went → List ℕ → Type 0
-EntryBy m kept e p before (Went.To q) after = EntryOn m kept e p before q after
-EntryBy m kept e p before Went.Not after =
-    (ps : Option (List Placed)) → heldTo (length before) (p .at) (leftBy m (put e ps) (p .place) (keptList (drop (p .kept) kept))) ≡ Passed.Not
+abbrev pub EntryBy : Lent → List ℕ → List ℕ → Placed → Pen → List ℕ → Went → List ℕ → Type 0
+EntryBy m ix kept e p before (Went.To q) after = EntryOn m ix kept e p before q after
+EntryBy m ix kept e p before Went.Not after =
+    (ps : Option (List Placed)) → heldTo (length before) (p .at) (leftBy m ix (put e ps) (p .place) (keptList (drop (p .kept) kept))) ≡ Passed.Not
 
 -- behind entries, with more left
-pub record Passing (m : Lent) (order kept before : List ℕ) (ps : Option (List Placed)) (q : Pen) (after : List ℕ) : Type 0 where
-  pub leads : Leads (passedBy m order kept) 0 before (leftBy m ps (q .place) (keptList (drop (q .kept) kept))) (q .at) after
+pub record Passing (m : Lent) (ix : List ℕ) (order kept before : List ℕ) (ps : Option (List Placed)) (q : Pen) (after : List ℕ) : Type 0 where
+  pub leads : Leads (passedBy m ix order kept) 0 before (leftBy m ix ps (q .place) (keptList (drop (q .kept) kept))) (q .at) after
   pub inside : q .kept ≤ length kept
   pub room : q .at ≤ length before
   pub long : length after ≡ length before
 
-abbrev pub EntriesBy : Lent → List ℕ → List ℕ → List ℕ → Went → List ℕ → Type 0
-EntriesBy m order kept before (Went.To q) after = Passing m order kept before (some []) q after
-EntriesBy m order kept before Went.Not after = heldTo (length before) 0 (passedBy m order kept) ≡ Passed.Not
+abbrev pub EntriesBy : Lent → List ℕ → List ℕ → List ℕ → List ℕ → Went → List ℕ → Type 0
+EntriesBy m ix order kept before (Went.To q) after = Passing m ix order kept before (some []) q after
+EntriesBy m ix order kept before Went.Not after = heldTo (length before) 0 (passedBy m ix order kept) ≡ Passed.Not
 
 -- ---- the output
 
@@ -186,13 +181,13 @@ CopiedBy p found before Passed.Not after = (after ≡ before) × ((n : ℕ) → 
 -- a piece in the front of the output, where an array of so many octets holds it and the output does; else the output as it was
 pub record WroteBy (room : ℕ) (piece : Option (List ℕ)) (before : List ℕ) (r : Passed) (after : List ℕ) : Type 0 where
   pub answers : r ≡ heldTo (min room (length before)) 0 piece
-  pub done : (n : ℕ) → r ≡ Passed.To n → after ≡ over (octetsOf piece) before
+  pub done : (n : ℕ) → r ≡ Passed.To n → after ≡ over (orEmpty piece) before
   pub not-done : r ≡ Passed.Not → after ≡ before
 
 -- the array, by the places of the table and the octets of the kept log
 unfoldable pub capacity : ℕ → ℕ → ℕ
 capacity places kept = pick (leb places 16 && leb kept 64) 128 512
 
--- a message whose kept log is short enough
-unfoldable pub shortBy : Lent → List ℕ → List ℕ → Option (List ℕ)
-shortBy m order kept = pick (ltb 512 (length kept)) none (passedBy m order kept)
+-- what a message is written as whose kept log has at most 512 octets; none of another
+unfoldable pub shortBy : Lent → List ℕ → List ℕ → List ℕ → Option (List ℕ)
+shortBy m ix order kept = pick (ltb 512 (length kept)) none (passedBy m ix order kept)

@@ -1,6 +1,6 @@
 // A message written in one pass: each row is judged and its element put into an array, by the order log where there is one, and all is
-// copied out where there is room. The pass gives up where anything is amiss, where the order log names a place below one that it named
-// before, or where the array is too short: then nothing is written, and the message has to be measured first.
+// copied out where there is room. The pass gives up where anything is amiss, where the order log names a place that is not above the one
+// it named before, or where the kept log is too long or the array too short: then nothing is written, and the message has to be measured first.
 use agreement::is_unlike;
 use kept::Count;
 use kept::entry_at;
@@ -20,18 +20,16 @@ use values::row::row_at;
 use values::row::value_octets;
 ghost use mathlib.Core.Path.{_≡_};
 ghost use Prim.Native.Nat.{_-_, _≤_, _<_};
-ghost use mathlib.Core.List.{[]};
 ghost use mathlib.Core.Bool.{_&&_};
 ghost use lib.ListN.{length, drop};
 ghost use lib.Dec.{leb};
-ghost use Rattle.definitions.specs.Basic.{over};
 ghost use Rattle.definitions.specs.Rows.{rowsOf};
-ghost use Rattle.definitions.specs.Logs.{knownIei, orderList, keptList};
+ghost use Rattle.definitions.specs.Logs.{keptList};
 ghost use Rattle.rows.specs.Numbers.{numbersAt};
 ghost use Rattle.order.specs.Order.{placedAs};
-ghost use Rattle.one_pass.specs.Passes.{lentOf, pieceBy, ranged, concatBy, leftBy, passedBy, shortBy, capacity, PutBy, KeptBy, NextBy, KnownBy, EntryBy, EntriesBy, CopiedBy, WroteBy};
+ghost use Rattle.one_pass.specs.Passes.{lentOf, pieceBy, ranged, concatBy, passedBy, shortBy, capacity, PutBy, KeptBy, NextBy, KnownBy, EntryBy, EntriesBy, CopiedBy, WroteBy};
 
-// The most octets of a kept log that is looked at, and the longest of the two arrays.
+// The most octets of a kept log that is looked at.
 const MOST_SHORT: usize = 512;
 
 // The position behind what was written; or not written.
@@ -63,7 +61,7 @@ fn put_first<'a>(
     at: usize,
 ) -> Passed
     requires { ⌜ at ≤ length (now out) ⌝ }
-    ensures { λ r. ⌜ PutBy (pieceBy (lentOf (now (table .entry)) [] (now (rows .entry)) (now (received .entry)) (now (set .entry))) place (numbersAt (now (table .entry)) place .first)) at (now (out .entry)) r (now (out .exit)) ⌝ }
+    ensures { λ r. ⌜ PutBy (pieceBy (lentOf (now (table .entry)) (now (rows .entry)) (now (received .entry)) (now (set .entry))) place (numbersAt (now (table .entry)) place .first)) at (now (out .entry)) r (now (out .exit)) ⌝ }
 {
     let row = row_at(rows, place);
     if !is_good(row, received, set) {
@@ -94,7 +92,7 @@ fn put_first<'a>(
 }
 
 // The same under an IEI of the order log. It does by itself what `put_first` does: where both call one function, that is put into
-// neither, and a message without logs takes an eighth more.
+// neither, and a message without logs takes a sixth more or worse.
 fn put_logged<'a>(
     table: &[u32],
     rows: &[u32],
@@ -106,7 +104,7 @@ fn put_logged<'a>(
     at: usize,
 ) -> Passed
     requires { ⌜ at ≤ length (now out) ⌝ }
-    ensures { λ r. ⌜ PutBy (pieceBy (lentOf (now (table .entry)) [] (now (rows .entry)) (now (received .entry)) (now (set .entry))) place iei) at (now (out .entry)) r (now (out .exit)) ⌝ }
+    ensures { λ r. ⌜ PutBy (pieceBy (lentOf (now (table .entry)) (now (rows .entry)) (now (received .entry)) (now (set .entry))) place iei) at (now (out .entry)) r (now (out .exit)) ⌝ }
 {
     let row = row_at(rows, place);
     if !is_good(row, received, set) {
@@ -145,7 +143,7 @@ fn put_between<'a>(
     start: usize,
 ) -> Passed
     requires { ⌜ start ≤ length (now out) ⌝ }
-    ensures { λ r. ⌜ PutBy (ranged (lentOf (now (table .entry)) [] (now (rows .entry)) (now (received .entry)) (now (set .entry))) from (to - from)) start (now (out .entry)) r (now (out .exit)) ⌝ }
+    ensures { λ r. ⌜ PutBy (ranged (lentOf (now (table .entry)) (now (rows .entry)) (now (received .entry)) (now (set .entry))) from (to - from)) start (now (out .entry)) r (now (out .exit)) ⌝ }
 {
     let mut at = start;
     let mut k = from;
@@ -161,6 +159,26 @@ fn put_between<'a>(
         }
     }
     Passed::To(at)
+}
+
+// The same where there may be none: most entries follow the one of the place before.
+fn put_lower<'a>(
+    table: &[u32],
+    rows: &[u32],
+    received: &'a [u8],
+    set: &'a [u8],
+    from: usize,
+    to: usize,
+    out: &mut [u8],
+    at: usize,
+) -> Passed
+    requires { ⌜ (from ≤ to) × (at ≤ length (now out)) ⌝ }
+    ensures { λ r. ⌜ PutBy (ranged (lentOf (now (table .entry)) (now (rows .entry)) (now (received .entry)) (now (set .entry))) from (to - from)) at (now (out .entry)) r (now (out .exit)) ⌝ }
+{
+    if from == to {
+        return Passed::To(at);
+    }
+    put_between(table, rows, received, set, from, to, out, at)
 }
 
 // The next kept element.
@@ -188,26 +206,6 @@ fn pass_kept(kept: &[u8], pen: Pen, out: &mut [u8]) -> Went
     }
 }
 
-// The same where there may be none: most entries follow the one of the place before.
-fn put_lower<'a>(
-    table: &[u32],
-    rows: &[u32],
-    received: &'a [u8],
-    set: &'a [u8],
-    from: usize,
-    to: usize,
-    out: &mut [u8],
-    at: usize,
-) -> Passed
-    requires { ⌜ (from ≤ to) × (at ≤ length (now out)) ⌝ }
-    ensures { λ r. ⌜ PutBy (ranged (lentOf (now (table .entry)) [] (now (rows .entry)) (now (received .entry)) (now (set .entry))) from (to - from)) at (now (out .entry)) r (now (out .exit)) ⌝ }
-{
-    if from == to {
-        return Passed::To(at);
-    }
-    put_between(table, rows, received, set, from, to, out, at)
-}
-
 // The same, if there is one.
 fn pass_next(kept: &[u8], pen: Pen, out: &mut [u8]) -> Went
     requires { ⌜ (pen .at ≤ length (now out)) × (pen .kept ≤ length (now kept)) ⌝ }
@@ -231,7 +229,7 @@ fn pass_known<'a>(
     out: &mut [u8],
 ) -> Went
     requires { ⌜ pen .at ≤ length (now out) ⌝ }
-    ensures { λ r. ⌜ KnownBy (lentOf (now (table .entry)) (now (index .entry)) (now (rows .entry)) (now (received .entry)) (now (set .entry))) iei pen (now (out .entry)) r (now (out .exit)) ⌝ }
+    ensures { λ r. ⌜ KnownBy (lentOf (now (table .entry)) (now (rows .entry)) (now (received .entry)) (now (set .entry))) (now (index .entry)) iei pen (now (out .entry)) r (now (out .exit)) ⌝ }
 {
     match place_of(index, iei) {
         Place::At(k) => {
@@ -269,7 +267,7 @@ fn pass_entry<'a>(
     out: &mut [u8],
 ) -> Went
     requires { ⌜ (pen .at ≤ length (now out)) × (pen .kept ≤ length (now kept)) ⌝ }
-    ensures { λ r. ⌜ EntryBy (lentOf (now (table .entry)) (now (index .entry)) (now (rows .entry)) (now (received .entry)) (now (set .entry))) (now (kept .entry)) (placedAs entry) pen (now (out .entry)) r (now (out .exit)) ⌝ }
+    ensures { λ r. ⌜ EntryBy (lentOf (now (table .entry)) (now (rows .entry)) (now (received .entry)) (now (set .entry))) (now (index .entry)) (now (kept .entry)) (placedAs entry) pen (now (out .entry)) r (now (out .exit)) ⌝ }
 {
     match entry {
         Placed::Known(iei) => pass_known(table, index, rows, received, set, iei, pen, out),
@@ -289,7 +287,7 @@ fn pass_entries<'a>(
     order: &[u8],
     out: &mut [u8],
 ) -> Went
-    ensures { λ r. ⌜ EntriesBy (lentOf (now (table .entry)) (now (index .entry)) (now (rows .entry)) (now (received .entry)) (now (set .entry))) (now (order .entry)) (now (kept .entry)) (now (out .entry)) r (now (out .exit)) ⌝ }
+    ensures { λ r. ⌜ EntriesBy (lentOf (now (table .entry)) (now (rows .entry)) (now (received .entry)) (now (set .entry))) (now (index .entry)) (now (order .entry)) (now (kept .entry)) (now (out .entry)) r (now (out .exit)) ⌝ }
 {
     let mut pen = Pen {
         at: 0,
@@ -348,7 +346,7 @@ fn pass<'a>(
     order: &[u8],
     out: &mut [u8],
 ) -> Passed
-    ensures { λ r. ⌜ PutBy (passedBy (lentOf (now (table .entry)) (now (index .entry)) (now (rows .entry)) (now (received .entry)) (now (set .entry))) (now (order .entry)) (now (kept .entry))) 0 (now (out .entry)) r (now (out .exit)) ⌝ }
+    ensures { λ r. ⌜ PutBy (passedBy (lentOf (now (table .entry)) (now (rows .entry)) (now (received .entry)) (now (set .entry))) (now (index .entry)) (now (order .entry)) (now (kept .entry))) 0 (now (out .entry)) r (now (out .exit)) ⌝ }
 {
     match pass_entries(table, index, rows, received, set, kept, order, out) {
         Went::To(pen) => {
@@ -406,7 +404,7 @@ fn plain_few<'a>(
     set: &'a [u8],
     output: &mut [u8],
 ) -> Passed
-    ensures { λ r. ⌜ WroteBy 128 (ranged (lentOf (now (table .entry)) [] (now (rows .entry)) (now (received .entry)) (now (set .entry))) 0 (length (rowsOf (now (table .entry))))) (now (output .entry)) r (now (output .exit)) ⌝ }
+    ensures { λ r. ⌜ WroteBy 128 (ranged (lentOf (now (table .entry)) (now (rows .entry)) (now (received .entry)) (now (set .entry))) 0 (length (rowsOf (now (table .entry))))) (now (output .entry)) r (now (output .exit)) ⌝ }
 {
     let mut found = [0u8; 128];
     let passed = put_between(table, rows, received, set, 0, places(table), &mut found, 0);
@@ -420,7 +418,7 @@ fn plain_many<'a>(
     set: &'a [u8],
     output: &mut [u8],
 ) -> Passed
-    ensures { λ r. ⌜ WroteBy 512 (ranged (lentOf (now (table .entry)) [] (now (rows .entry)) (now (received .entry)) (now (set .entry))) 0 (length (rowsOf (now (table .entry))))) (now (output .entry)) r (now (output .exit)) ⌝ }
+    ensures { λ r. ⌜ WroteBy 512 (ranged (lentOf (now (table .entry)) (now (rows .entry)) (now (received .entry)) (now (set .entry))) 0 (length (rowsOf (now (table .entry))))) (now (output .entry)) r (now (output .exit)) ⌝ }
 {
     let mut found = [0u8; 512];
     let passed = put_between(table, rows, received, set, 0, places(table), &mut found, 0);
@@ -437,7 +435,7 @@ fn pass_few<'a>(
     order: &[u8],
     output: &mut [u8],
 ) -> Passed
-    ensures { λ r. ⌜ WroteBy 128 (passedBy (lentOf (now (table .entry)) (now (index .entry)) (now (rows .entry)) (now (received .entry)) (now (set .entry))) (now (order .entry)) (now (kept .entry))) (now (output .entry)) r (now (output .exit)) ⌝ }
+    ensures { λ r. ⌜ WroteBy 128 (passedBy (lentOf (now (table .entry)) (now (rows .entry)) (now (received .entry)) (now (set .entry))) (now (index .entry)) (now (order .entry)) (now (kept .entry))) (now (output .entry)) r (now (output .exit)) ⌝ }
 {
     let mut found = [0u8; 128];
     let passed = pass(table, index, rows, received, set, kept, order, &mut found);
@@ -454,7 +452,7 @@ fn pass_many<'a>(
     order: &[u8],
     output: &mut [u8],
 ) -> Passed
-    ensures { λ r. ⌜ WroteBy 512 (passedBy (lentOf (now (table .entry)) (now (index .entry)) (now (rows .entry)) (now (received .entry)) (now (set .entry))) (now (order .entry)) (now (kept .entry))) (now (output .entry)) r (now (output .exit)) ⌝ }
+    ensures { λ r. ⌜ WroteBy 512 (passedBy (lentOf (now (table .entry)) (now (rows .entry)) (now (received .entry)) (now (set .entry))) (now (index .entry)) (now (order .entry)) (now (kept .entry))) (now (output .entry)) r (now (output .exit)) ⌝ }
 {
     let mut found = [0u8; 512];
     let passed = pass(table, index, rows, received, set, kept, order, &mut found);
@@ -479,7 +477,7 @@ fn write_plain<'a>(
     set: &'a [u8],
     output: &mut [u8],
 ) -> Passed
-    ensures { λ r. ⌜ WroteBy (capacity (length (rowsOf (now (table .entry)))) 0) (ranged (lentOf (now (table .entry)) [] (now (rows .entry)) (now (received .entry)) (now (set .entry))) 0 (length (rowsOf (now (table .entry))))) (now (output .entry)) r (now (output .exit)) ⌝ }
+    ensures { λ r. ⌜ WroteBy (capacity (length (rowsOf (now (table .entry)))) 0) (ranged (lentOf (now (table .entry)) (now (rows .entry)) (now (received .entry)) (now (set .entry))) 0 (length (rowsOf (now (table .entry))))) (now (output .entry)) r (now (output .exit)) ⌝ }
 {
     if is_few(places(table), 0) {
         return plain_few(table, rows, received, set, output);
@@ -498,7 +496,7 @@ pub fn write_pass<'a>(
     order: &[u8],
     output: &mut [u8],
 ) -> Passed
-    ensures { λ r. ⌜ WroteBy (capacity (length (rowsOf (now (table .entry)))) (length (now (kept .entry)))) (shortBy (lentOf (now (table .entry)) (now (index .entry)) (now (rows .entry)) (now (received .entry)) (now (set .entry))) (now (order .entry)) (now (kept .entry))) (now (output .entry)) r (now (output .exit)) ⌝ }
+    ensures { λ r. ⌜ WroteBy (capacity (length (rowsOf (now (table .entry)))) (length (now (kept .entry)))) (shortBy (lentOf (now (table .entry)) (now (rows .entry)) (now (received .entry)) (now (set .entry))) (now (index .entry)) (now (order .entry)) (now (kept .entry))) (now (output .entry)) r (now (output .exit)) ⌝ }
 {
     if order.len() == 0 {
         if kept.len() == 0 {

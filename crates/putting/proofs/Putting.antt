@@ -1,5 +1,5 @@
 -- An element that is put, or not, by the tests that decide it; and octets put behind a header that was stored.
--- Each test goes by the cases of the form; the octets regroup.
+-- Each test decides by itself; the octets regroup.
 use Prim.Native.Nat.{ℕ, _+_, _-_, _≤_, _<_}
 use native.Mathlib.Omega.{arith}
 use mathlib.Core.Path.{_≡_, refl, ap, _∙_}
@@ -14,7 +14,7 @@ use Rattle.definitions.specs.Rows.{Form}
 use Rattle.definitions.specs.Values.{fits}
 use Rattle.definitions.specs.Writing.{encoded}
 use Rattle.definitions.proofs.Lists.{put-behind, length-over}
-use Rattle.putting.specs.Puts.{free, writable, puts, PutIf}
+use Rattle.putting.specs.Puts.{addable, writable, puts, PutIf}
 
 module _ {b : Bool} {piece before : List ℕ} where
   pub put-not : b ≡ false → PutIf b piece before 0 before
@@ -30,21 +30,21 @@ module _ {b : Bool} {piece before : List ℕ} where
 -- ---- the tests
 
 module _ (f : Form) (source iei : ℕ) (s out : List ℕ) where
-  -- a value that does not fit, an IEI that is not free, or no room
+  -- a value that does not fit, an IEI to which bits cannot be added, or no room
   pub not-fit : fits f source s ≡ false → puts f source iei s out ≡ false
   unfolding puts writable
   not-fit e = rw e
 
-  pub not-free : free f iei ≡ false → puts f source iei s out ≡ false
+  pub not-addable : addable f iei ≡ false → puts f source iei s out ≡ false
   unfolding puts writable
-  not-free e = rw (e, and-false (fits f source s))
+  not-addable e = rw (e, and-false (fits f source s))
 
   pub no-room : length out < length (encoded f iei s) → puts f source iei s out ≡ false
   unfolding puts
   no-room h = rw (lt-leb (length (encoded f iei s)) (length out), and-false (writable f source iei s))
 
   -- all three
-  pub all-there : fits f source s ≡ true → free f iei ≡ true → length (encoded f iei s) ≤ length out → puts f source iei s out ≡ true
+  pub all-there : fits f source s ≡ true → addable f iei ≡ true → length (encoded f iei s) ≤ length out → puts f source iei s out ≡ true
   unfolding puts writable
   all-there a e h = rw (a, e, le-leb (length (encoded f iei s)) (length out))
 

@@ -1,5 +1,5 @@
--- One element put into the front of a buffer: where its value fits its form, its IEI leaves the bits of a half octet free, and there is
--- room for all of it. Else nothing is put.
+-- One element put into the front of a buffer: where its value fits its form, its IEI and the four bits of a half octet make an octet,
+-- and there is room for all of it. Else nothing is put.
 use Prim.Native.Nat.{ℕ}
 use mathlib.Core.Path.{_≡_}
 use mathlib.Core.List.{List}
@@ -11,16 +11,16 @@ use Rattle.definitions.specs.Rows.{Form, half, fixed, tlv, tlv-e}
 use Rattle.definitions.specs.Values.{fits}
 use Rattle.definitions.specs.Writing.{encoded}
 
--- an IEI to which the four bits of a half octet can be added
-unfoldable pub free : Form → ℕ → Bool
-free half iei = leb iei 240
-free (fixed n) iei = true
-free tlv iei = true
-free tlv-e iei = true
+-- an IEI to which any four bits of a half octet can be added
+unfoldable pub addable : Form → ℕ → Bool
+addable half iei = leb iei 240
+addable (fixed n) iei = true
+addable tlv iei = true
+addable tlv-e iei = true
 
--- whether an element can be written: its value fits its form, and its IEI is free
+-- whether an element can be written: its value fits its form, and its IEI can have the bits added
 unfoldable pub writable : Form → ℕ → ℕ → List ℕ → Bool
-writable f source iei s = fits f source s && free f iei
+writable f source iei s = fits f source s && addable f iei
 
 -- whether it is put
 unfoldable pub puts : Form → ℕ → ℕ → List ℕ → List ℕ → Bool

@@ -1,5 +1,5 @@
 -- A buffer that is written piece by piece: what is left of a piece, a step further and at the end; and the element of a present place.
--- Each step regroups the pieces; an element fits, its IEI is free, and with room it is put.
+-- Each step regroups the pieces; an element fits, its IEI takes the bits of a half octet, and with room it is put.
 use Prim.Native.Nat.{ℕ, _+_, _-_, _≤_, _<_}
 use native.Mathlib.Omega.{arith}
 use mathlib.Core.Path.{_≡_, refl, ap, ap₂, sym, _∙_}
@@ -16,7 +16,7 @@ use Rattle.definitions.proofs.RowLaws.{Bears}
 use Rattle.definitions.proofs.Lists.{over-next, over-none, lent-over, length-overAt}
 use Rattle.values.specs.Rows.{valueOf, sourcesOf}
 use Rattle.values.specs.declared.row.ValueRow.{ValueRow}
-use Rattle.putting.specs.Puts.{free, puts, PutIf}
+use Rattle.putting.specs.Puts.{addable, puts, PutIf}
 use Rattle.putting.proofs.Putting.{put-yes, all-there, whole}
 use Rattle.writing.specs.Puts.{PutAt}
 use Rattle.writing.specs.Walks.{filledOf, Writable, Left}
@@ -75,13 +75,13 @@ second-room {at = at} a b {d = d} h p =
 
 -- ---- values
 
--- an IEI of a form leaves the bits of a half octet free
-free-bears : (f : Form) (iei : ℕ) → Bears f iei → free f iei ≡ true
-unfolding free
-free-bears half iei b = le-leb iei 240 (omega (arith, b .1, b .2))
-free-bears (fixed n) iei b = refl
-free-bears tlv iei b = refl
-free-bears tlv-e iei b = refl
+-- an IEI of a form takes the bits of a half octet
+addable-bears : (f : Form) (iei : ℕ) → Bears f iei → addable f iei ≡ true
+unfolding addable
+addable-bears half iei b = le-leb iei 240 (omega (arith, b .1, b .2))
+addable-bears (fixed n) iei b = refl
+addable-bears tlv iei b = refl
+addable-bears tlv-e iei b = refl
 
 -- an IEI of a form is an octet
 pub bears-octet : (f : Form) (iei : ℕ) → Bears f iei → iei < 256
@@ -105,5 +105,5 @@ module _ (table rows received set : List ℕ) (k iei : ℕ) (row : ValueRow) (e 
         → PutAt at (elementAt (filledOf table rows received set) k iei) d (at + m) (putMid at (length d - at) d ys)
     put-there w h b at d r i =
         let l : at + length (encoded g iei s) ≤ length d = rw piece-there at r in
-        let y = put-yes (all-there g (row .source) iei s (take (length d - at) (drop at d)) (rw (p, q) (fits-there table rows received set k row e n (w .fit k h))) (rw p (free-bears f iei b)) (simp (length-take, length-drop) (omega arith))) i in
+        let y = put-yes (all-there g (row .source) iei s (take (length d - at) (drop at d)) (rw (p, q) (fits-there table rows received set k row e n (w .fit k h))) (rw p (addable-bears f iei b)) (simp (length-take, length-drop) (omega arith))) i in
         rw piece-there (put-from at (encoded g iei s) d l (y .0) (y .1))

@@ -45,7 +45,7 @@ module _ (m : Filled) (set : ℕ) where
     pub no-bits : (j : ℕ) → k ≤ j → bit j (setOf (t .seen)) ≡ false
     pub sum : t .octets ≡ length (addedOctets m (setOf (t .seen)) 0 k)
 
-  pub surveying-begun : Surveying 0 (record { octets = 0; seen = record { low = 0; high = 0 } })
+  surveying-begun : Surveying 0 (record { octets = 0; seen = record { low = 0; high = 0 } })
   unfolding addedOctets addedIn firsts
   surveying-begun =
       let z : n - 0 ≡ n = omega arith in
@@ -60,7 +60,7 @@ module _ (m : Filled) (set : ℕ) where
       }
 
   module _ (k : ℕ) (t : Tally) (s : Surveying k t) where
-    pub surveying-ended : n ≤ k → n ≤ 128 → SurveyedBy m set (Surveyed.Added t)
+    surveying-ended : n ≤ k → n ≤ 128 → SurveyedBy m set (Surveyed.Added t)
     unfolding unfit isNone
     surveying-ended h q =
         let e : k ≡ n = omega (arith, s .inside) in
@@ -99,11 +99,11 @@ module _ (m : Filled) (set : ℕ) where
           let l : t .octets ≡ t .octets + length (addedPiece m (setOf (t .seen)) k) = rw (piece-not m (setOf (t .seen)) k z) (omega arith) in
           stepped g f t (λ j i. refl) (z ∙ sym e) l (omega arith)
 
-      pub surveying-absent : LookedAt m set k Looked.Absent → Surveying (k + 1) t
+      surveying-absent : LookedAt m set k Looked.Absent → Surveying (k + 1) t
       unfolding unfitAt
       surveying-absent a = passed (a .0) (rw (a .1)) (rw (a .1))
 
-      pub surveying-step : k < 128 → {l : ℕ} {u : Tally} → LookedAt m set k (Looked.Takes l) → u ≡ addedTo set k l t → Surveying (k + 1) u
+      surveying-step : k < 128 → {l : ℕ} {u : Tally} → LookedAt m set k (Looked.Takes l) → u ≡ addedTo set k l t → Surveying (k + 1) u
       surveying-step low {l = l} a q = rw q (by (bit k set) refl)
         where
           with-it : Tally

@@ -2,12 +2,9 @@
 -- What is left behind each leads to the whole message.
 use Prim.Native.Nat.{_-_}
 use native.Mathlib.Omega.{arith}
-use mathlib.Core.List.{[]}
-use lib.ListN.{length}
-use Rattle.definitions.specs.Rows.{rowsOf}
 use Rattle.one_pass.specs.Passes.{lentOf}
 use Rattle.one_pass.proofs.Pieces.{held-inside, put-not}
-use Rattle.one_pass.proofs.Turns.{ranged-any, places-not, places-on}
+use Rattle.one_pass.proofs.Turns.{places-not, places-on}
 use borrow.Author.Needs.{needs}
 use Rattle.one_pass.proofs.pass.Statement.{statement}
 use Rattle.one_pass.proofs.pass.Tie as tie
@@ -42,9 +39,8 @@ same-length c = search needs
 returns : tie.Need-returns
 returns c =
     let a = c .before .before .before .before .before .before .before .before .before .before .before .before .before .before .before .before .before .before .before .before .before .before .before .before .before .before .before .args in
-    let c′ = c .before .before .before .before .before .before .before .before .before .before .before .before .before .pen .given .0 .0 .place in
-    let b = rw (c .before .before .before .before .before .at .given .1, c .before .before .before .before .before .before .before .before .before .before .before .places .ensures, ranged-any (a .table .now) (a .rows .now) (a .received .now) (a .set .now) [] (a .index .now) (length (rowsOf (a .table .now)) - c′) c′) at (c .before .before .before .before .before .before .before .before .before .put-between .ensures) in
-    places-on (lentOf (a .table .now) (a .index .now) (a .rows .now) (a .received .now) (a .set .now)) (a .order .now) (a .kept .now) (a .out .now) (rw (c .before .before .before .before .before .before .before .before .before .before .before .before .before .pen .given .1) at (c .before .before .before .before .before .before .before .before .before .before .before .before .before .before .before .before .before .pass-entries .ensures)) b (c .before .before .pass-left .ensures)
+    let b = rw (c .before .before .before .before .before .at .given .1, c .before .before .before .before .before .before .before .before .before .before .before .places .ensures) at (c .before .before .before .before .before .before .before .before .before .put-between .ensures) in
+    places-on (lentOf (a .table .now) (a .rows .now) (a .received .now) (a .set .now)) (a .index .now) (a .order .now) (a .kept .now) (a .out .now) (rw (c .before .before .before .before .before .before .before .before .before .before .before .before .before .pen .given .1) at (c .before .before .before .before .before .before .before .before .before .before .before .before .before .before .before .before .before .pass-entries .ensures)) b (c .before .before .pass-left .ensures)
 
 same-length-2 : tie.Need-same-length-2
 same-length-2 c = search needs
@@ -52,9 +48,8 @@ same-length-2 c = search needs
 returns-2 : tie.Need-returns-2
 returns-2 c =
     let a = c .before .before .before .before .before .before .before .before .before .before .before .before .before .before .before .before .before .before .before .before .before .before .args in
-    let c′ = c .before .before .before .before .before .before .before .before .pen .given .0 .0 .place in
-    let b = rw (c .enum-told .given .1, c .before .before .before .before .before .before .places .ensures, ranged-any (a .table .now) (a .rows .now) (a .received .now) (a .set .now) [] (a .index .now) (length (rowsOf (a .table .now)) - c′) c′) at (c .before .before .before .before .put-between .ensures) in
-    places-not (lentOf (a .table .now) (a .index .now) (a .rows .now) (a .received .now) (a .set .now)) (a .order .now) (a .kept .now) (a .out .now) (rw (c .before .before .before .before .before .before .before .before .pen .given .1) at (c .before .before .before .before .before .before .before .before .before .before .before .before .pass-entries .ensures)) b
+    let b = rw (c .enum-told .given .1, c .before .before .before .before .before .before .places .ensures) at (c .before .before .before .before .put-between .ensures) in
+    places-not (lentOf (a .table .now) (a .rows .now) (a .received .now) (a .set .now)) (a .index .now) (a .order .now) (a .kept .now) (a .out .now) (rw (c .before .before .before .before .before .before .before .before .pen .given .1) at (c .before .before .before .before .before .before .before .before .before .before .before .before .pass-entries .ensures)) b
 
 same-length-3 : tie.Need-same-length-3
 same-length-3 c = search needs

@@ -30,19 +30,19 @@ same-length : tie.Need-same-length
 same-length c = search needs
 
 returns : tie.Need-returns
-returns c = let a = c .before .before .before .before .before .before .before .before .before .before .before .before .before .before .args in rw (c .before .before .before .before .before .entry .given .1) (known-by (a .table .now) (a .index .now) (a .rows .now) (a .received .now) (a .set .now) (c .before .before .before .before .before .entry .given .0 .0) (a .pen) (a .out .now) (a .kept .now) (c .before .before .pass-known .last .1 .1 .1 .1 .1 .1 .1 .0) (c .before .before .before .before .before .before .before .before .before .before .before .before .before .before .pre .1) (c .before .before .pass-known .result) (c .before .before .pass-known .ensures))
+returns c = let a = c .before .before .before .before .before .before .before .before .before .before .before .before .before .before .args in rw (c .before .before .before .before .before .entry .given .1) (known-by (lentOf (a .table .now) (a .rows .now) (a .received .now) (a .set .now)) (a .index .now) (c .before .before .before .before .before .entry .given .0 .0) (a .pen) (a .out .now) (a .kept .now) (c .before .before .pass-known .last .1 .1 .1 .1 .1 .1 .1 .0) (c .before .before .before .before .before .before .before .before .before .before .before .before .before .before .pre .1) (c .before .before .pass-known .result) (c .before .before .pass-known .ensures))
 
 same-length-2 : tie.Need-same-length-2
 same-length-2 c = search needs
 
 returns-2 : tie.Need-returns-2
-returns-2 c = let a = c .before .before .before .before .before .before .before .before .before .before .before .before .before .args in rw (c .before .before .before .before .enum-told .given .1) (aside-turn (lentOf (a .table .now) (a .index .now) (a .rows .now) (a .received .now) (a .set .now)) (a .kept .now) notKnown tt (a .pen) (a .out .now) (c .before .before .pass-next .last .1 .1 .0) (c .before .before .before .before .before .before .before .before .before .before .before .before .before .pre .0) (c .before .before .before .before .before .before .before .before .before .before .before .before .before .pre .1) (c .before .before .pass-next .result) (c .before .before .pass-next .ensures))
+returns-2 c = let a = c .before .before .before .before .before .before .before .before .before .before .before .before .before .args in rw (c .before .before .before .before .enum-told .given .1) (aside-turn (lentOf (a .table .now) (a .rows .now) (a .received .now) (a .set .now)) (a .index .now) (a .kept .now) notKnown tt (a .pen) (a .out .now) (c .before .before .pass-next .last .1 .1 .0) (c .before .before .before .before .before .before .before .before .before .before .before .before .before .pre .0) (c .before .before .before .before .before .before .before .before .before .before .before .before .before .pre .1) (c .before .before .pass-next .result) (c .before .before .pass-next .ensures))
 
 same-length-3 : tie.Need-same-length-3
 same-length-3 c = search needs
 
 returns-3 : tie.Need-returns-3
-returns-3 c = let a = c .before .before .before .before .before .before .before .before .before .before .before .before .before .args in rw (c .before .before .before .before .enum-told2 .given .1) (aside-turn (lentOf (a .table .now) (a .index .now) (a .rows .now) (a .received .now) (a .set .now)) (a .kept .now) (ignored (reasonAs (c .before .before .before .before .enum-told2 .given .0 .0))) tt (a .pen) (a .out .now) (c .before .before .pass-next2 .last .1 .1 .0) (c .before .before .before .before .before .before .before .before .before .before .before .before .before .pre .0) (c .before .before .before .before .before .before .before .before .before .before .before .before .before .pre .1) (c .before .before .pass-next2 .result) (c .before .before .pass-next2 .ensures))
+returns-3 c = let a = c .before .before .before .before .before .before .before .before .before .before .before .before .before .args in rw (c .before .before .before .before .enum-told2 .given .1) (aside-turn (lentOf (a .table .now) (a .rows .now) (a .received .now) (a .set .now)) (a .index .now) (a .kept .now) (ignored (reasonAs (c .before .before .before .before .enum-told2 .given .0 .0))) tt (a .pen) (a .out .now) (c .before .before .pass-next2 .last .1 .1 .0) (c .before .before .before .before .before .before .before .before .before .before .before .before .before .pre .0) (c .before .before .before .before .before .before .before .before .before .before .before .before .before .pre .1) (c .before .before .pass-next2 .result) (c .before .before .pass-next2 .ensures))
 
 pub pass-entry-spec : {M : Type 1} → statement M
 pass-entry-spec =

@@ -2,7 +2,6 @@
 -- The measure is how many are left.
 use Prim.Native.Nat.{_+_, _-_}
 use native.Mathlib.Omega.{arith}
-use mathlib.Core.List.{[]}
 use Rattle.one_pass.specs.Passes.{lentOf, ranged}
 use Rattle.one_pass.proofs.Pieces.{Going, going-begun, going-as, going-on, going-not, going-end}
 use Rattle.one_pass.proofs.Turns.{ranged-next, ranged-over}
@@ -11,7 +10,7 @@ use Rattle.one_pass.proofs.put_between.Statement.{statement}
 use Rattle.one_pass.proofs.put_between.Tie as tie
 
 abbrev Inv-loop : tie.InvT-loop
-Inv-loop table rows received set from to out₀ start at₀ k₀ out at k = Going (ranged (lentOf table [] rows received set) from (to - from)) start out₀ (ranged (lentOf table [] rows received set) k (to - k)) at out
+Inv-loop table rows received set from to out₀ start at₀ k₀ out at k = Going (ranged (lentOf table rows received set) from (to - from)) start out₀ (ranged (lentOf table rows received set) k (to - k)) at out
 
 abbrev μ-loop : tie.MeasureT-loop
 μ-loop table rows received set from to out₀ start at₀ k₀ out at k = to - k
@@ -34,7 +33,7 @@ loop-less c = omega (arith, c .before .before .before .before .before .before .b
 loop-again : tie.Need-loop-again Inv-loop μ-loop
 loop-again c =
     let a = c .before .before .before .before .before .before .before .before .before .before .before .before .before .before .args in
-    let m = lentOf (a .table .now) [] (a .rows .now) (a .received .now) (a .set .now) in
+    let m = lentOf (a .table .now) (a .rows .now) (a .received .now) (a .set .now) in
     let k = c .before .before .before .before .before .before .before .before .loop .k in
     going-on (ranged m (k + 1) (a .to - (k + 1))) (going-as (ranged-next m k (a .to) (c .before .before .before .before .before .before .before .loop-test .taken)) (c .before .before .before .before .before .before .before .before .loop .inv)) (rw (c .before .next .given .1) at (c .before .before .before .before .before .put-first .ensures))
 
@@ -47,7 +46,7 @@ same-length c = search needs
 returns : tie.Need-returns Inv-loop μ-loop
 returns c =
     let a = c .before .before .before .before .before .before .before .before .before .before .before .before .before .args in
-    let m = lentOf (a .table .now) [] (a .rows .now) (a .received .now) (a .set .now) in
+    let m = lentOf (a .table .now) (a .rows .now) (a .received .now) (a .set .now) in
     let k = c .before .before .before .before .before .before .before .loop .k in
     going-not (ranged m (k + 1) (a .to - (k + 1))) (going-as (ranged-next m k (a .to) (c .before .before .before .before .before .before .loop-test .taken)) (c .before .before .before .before .before .before .before .loop .inv)) (rw (c .enum-told .given .1) at (c .before .before .before .before .put-first .ensures))
 
@@ -55,7 +54,7 @@ same-length-2 : tie.Need-same-length-2 Inv-loop μ-loop
 same-length-2 c = c .before .loop .inv .long
 
 returns-2 : tie.Need-returns-2 Inv-loop μ-loop
-returns-2 c = let a = c .before .before .before .before .before .before .before .args in going-end (going-as (ranged-over (lentOf (a .table .now) [] (a .rows .now) (a .received .now) (a .set .now)) (c .before .loop .k) (a .to) (c .loop-test .left)) (c .before .loop .inv))
+returns-2 c = let a = c .before .before .before .before .before .before .before .args in going-end (going-as (ranged-over (lentOf (a .table .now) (a .rows .now) (a .received .now) (a .set .now)) (c .before .loop .k) (a .to) (c .loop-test .left)) (c .before .loop .inv))
 
 pub put-between-spec : {M : Type 1} → statement M
 put-between-spec =

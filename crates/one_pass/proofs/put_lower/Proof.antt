@@ -1,7 +1,6 @@
 -- `put_lower` is `put_between` where there is a place.
 -- Of none there is nothing to put.
 use native.Mathlib.Omega.{arith}
-use mathlib.Core.List.{[]}
 use Rattle.one_pass.specs.Passes.{lentOf}
 use Rattle.one_pass.proofs.Pieces.{put-nothing}
 use Rattle.one_pass.proofs.Turns.{ranged-over}
@@ -10,7 +9,7 @@ use Rattle.one_pass.proofs.put_lower.Statement.{statement}
 use Rattle.one_pass.proofs.put_lower.Tie as tie
 
 returns : tie.Need-returns
-returns c = let a = c .before .before .before .before .before .before .args in rw (ranged-over (lentOf (a .table .now) [] (a .rows .now) (a .received .now) (a .set .now)) (a .from) (a .to) (omega arith)) (put-nothing (c .before .before .before .before .before .before .pre .1))
+returns c = let a = c .before .before .before .before .before .before .args in rw (ranged-over (lentOf (a .table .now) (a .rows .now) (a .received .now) (a .set .now)) (a .from) (a .to) (omega arith)) (put-nothing (c .before .before .before .before .before .before .pre .1))
 
 put-between-requires : tie.Need-put-between-requires
 put-between-requires c κs = search needs

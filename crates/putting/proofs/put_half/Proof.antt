@@ -1,4 +1,4 @@
--- `put_half` stores one octet where the value is one half octet, its IEI leaves the four bits free and there is room.
+-- `put_half` stores one octet where the value is one half octet, the sum with its IEI is an octet and there is room.
 -- Each refusal by the test that led to it; at the end all hold, and the sum is an octet.
 use native.Mathlib.Omega.{arith}
 use Prim.Native.Nat.{_+_, _%_}
@@ -9,8 +9,8 @@ use Rattle.definitions.specs.Rows.{half}
 use Rattle.definitions.specs.Values.{fits}
 use Rattle.definitions.specs.Writing.{encoded}
 use Rattle.definitions.proofs.Lists.{front-one}
-use Rattle.putting.specs.Puts.{free}
-use Rattle.putting.proofs.Putting.{put-not, put-done, not-fit, not-free, no-room, all-there}
+use Rattle.putting.specs.Puts.{addable}
+use Rattle.putting.proofs.Putting.{put-not, put-done, not-fit, not-addable, no-room, all-there}
 use borrow.Author.Needs.{needs}
 use Rattle.putting.proofs.put_half.Statement.{statement}
 use Rattle.putting.proofs.put_half.Tie as tie
@@ -30,8 +30,8 @@ unfolding fits
 returns-2 c = let a = c .before .before .before .before .before .before .args in put-not (not-fit half (a .source) (a .iei) (a .value .now) (a .out .now) (rw (eq-eqb (length (a .value .now)) 1 (omega arith), sym (c .before .is-half .ensures) ∙ not-true _ (c .if2 .taken))))
 
 returns-3 : tie.Need-returns-3
-unfolding free
-returns-3 c = let a = c .before .before .before .before .before .before .before .args in put-not (not-free half (a .source) (a .iei) (a .value .now) (a .out .now) (lt-leb (a .iei) 240 (omega arith)))
+unfolding addable
+returns-3 c = let a = c .before .before .before .before .before .before .before .args in put-not (not-addable half (a .source) (a .iei) (a .value .now) (a .out .now) (lt-leb (a .iei) 240 (omega arith)))
 
 returns-4 : tie.Need-returns-4
 unfolding encoded
@@ -47,7 +47,7 @@ same-length : tie.Need-same-length
 same-length c = search needs
 
 returns-5 : tie.Need-returns-5
-unfolding fits free encoded
+unfolding fits addable encoded
 returns-5 c = let a = c .before .before .before .before .before .before .before .before .args in put-done (all-there half (a .source) (a .iei) (a .value .now) (a .out .now) (rw (eq-eqb (length (a .value .now)) 1 (omega arith), sym (c .before .before .before .is-half .ensures) ∙ not-false _ (c .before .before .if2 .left))) (le-leb (a .iei) 240 (omega arith)) (omega arith)) refl (front-one (a .iei + getD (a .value .now) 0 0 % 16) (a .out .now) (omega arith))
 
 pub put-half-spec : {M : Type 1} → statement M

@@ -12,7 +12,7 @@ use Rattle.definitions.specs.Rows.{tlv}
 use Rattle.definitions.specs.Values.{fits}
 use Rattle.definitions.specs.Writing.{encoded}
 use Rattle.definitions.proofs.Lists.{front-two, length-over}
-use Rattle.putting.specs.Puts.{free}
+use Rattle.putting.specs.Puts.{addable}
 use Rattle.putting.proofs.Putting.{put-not, put-done, not-fit, no-room, all-there, put-value}
 use borrow.Author.Needs.{needs}
 use Rattle.putting.proofs.put_tlv.Statement.{statement}
@@ -61,7 +61,7 @@ same-length : tie.Need-same-length
 same-length c = let a = c .before .before .before .before .before .before .before .before .args in ap length (written c) ∙ length-over (a .iei ∷ length (a .value .now) ∷ a .value .now) (a .out .now) (omega arith)
 
 returns-3 : tie.Need-returns-3
-unfolding fits free encoded
+unfolding fits addable encoded
 returns-3 c = let a = c .before .before .before .before .before .before .before .before .args in put-done (all-there tlv 0 (a .iei) (a .value .now) (a .out .now) (le-leb (length (a .value .now)) 255 (omega arith)) refl (omega arith)) (omega arith) (written c)
 
 pub put-tlv-spec : {M : Type 1} → statement M

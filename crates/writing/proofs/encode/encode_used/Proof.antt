@@ -29,7 +29,7 @@ returns c =
     let a = c .before .before .before .before .before .before .before .before .before .before .before .before .before .before .before .args in
     let w = rw (c .before .n .given .1) at (c .before .before .before .before .before .write-pass .ensures) in
     passed-done (a .table .now) (a .index .now) (a .rows .now) (a .received .now) (a .set .now) (a .kept .now) (a .order .now) (a .output .now) (c .before .before .before .before .before .before .before .before .before .before .before .before .before .before .before .pre)
-    (wrote-all (lentOf (a .table .now) (a .index .now) (a .rows .now) (a .received .now) (a .set .now)) (a .order .now) (a .kept .now) (capacity (length (rowsOf (a .table .now))) (length (a .kept .now))) (a .output .now) w)
+    (wrote-all (lentOf (a .table .now) (a .rows .now) (a .received .now) (a .set .now)) (a .index .now) (a .order .now) (a .kept .now) (capacity (length (rowsOf (a .table .now))) (length (a .kept .now))) (a .output .now) w)
 
 same-length-2 : tie.Need-same-length-2
 same-length-2 c = search needs
