@@ -1,14 +1,15 @@
 -- The check of a row by its numbers taken at once, of any table.
 -- A row that is not whole has no set of kinds, and is out of range either way.
-use Prim.Native.Nat.{ℕ, _*_, _/_, _≤_, _<_}
+use Prim.Native.Nat.{ℕ, _*_, _/_, _≤_, _<_, min}
 use native.Mathlib.Omega.{arith}
 use mathlib.Core.Path.{_≡_, refl, ap, sym, _∙_}
 use mathlib.Core.List.{List, [], _∷_}
+use mathlib.Core.Option.{some}
 use mathlib.Core.Bool.{Bool, true, false, _&&_, and-true, false≢true}
-use borrow.Author.Tests.{lt-ltb, ltb-true, ltb-false, le-leb, lt-leb}
+use borrow.Author.Tests.{lt-ltb, le-ltb, ltb-true, ltb-false, le-leb, lt-leb, leb-true, leb-false}
 use lib.ListN.{length, getD, drop}
 use lib.Seq.{getD-drop}
-use lib.Dec.{ltb, eqb, lit<}
+use lib.Dec.{ltb, leb, eqb, lit<}
 use Rattle.definitions.specs.Basic.{pick}
 use Rattle.definitions.specs.Rows.{Row, rowOf, rowsOf, rowAt, ieis, goodIei}
 use Rattle.definitions.proofs.TableLaws.{past, row-at, iei-at, iei-count, count-is}
@@ -16,6 +17,7 @@ use Rattle.rows.specs.Numbers.{numbersOf, noNumbers, numbersAt}
 use Rattle.rows.specs.declared.columns.Numbers.{Numbers}
 use Rattle.indexing.specs.Marks.{free, enter, enterAll, enters, markOf, enterRow}
 use Rattle.checks.specs.Passes.{inRange, ieisPass, passes}
+use Rattle.checks.proofs.Steps.{Told, Checking, too-many, bad-row}
 
 single : (l : List ℕ) → length l ≡ 1 → l ≡ getD l 0 0 ∷ []
 single [] e = absurd (omega arith)
@@ -97,3 +99,15 @@ module _ (table ix : List ℕ) (k : ℕ) (n : Numbers) (e : n ≡ numbersAt tabl
       pub one-entered : enterRow k row ix ≡ enter (markOf k) (n .first) ix
       unfolding enterAll
       one-entered = rw alone
+
+-- behind the whole rows stands an unfinished one, or one too many
+pub past-whole : (table ix₀ ix : List ℕ) (n : ℕ) → n ≡ min (length table / 10) 128 → n < length (rowsOf table) → Checking (rowsOf table) ix₀ n ix → Told (rowsOf table) ix₀ (some n) ix
+unfolding numbersAt inRange
+past-whole table ix₀ ix n e h c = by (leb 128 n) refl
+  where
+    by : (b : Bool) → leb 128 n ≡ b → Told (rowsOf table) ix₀ (some n) ix
+    by true q = too-many (rowsOf table) ix₀ n ix c h (leb-true 128 n q)
+    by false q =
+        let l = leb-false 128 n q in
+        let z : noNumbers ≡ numbersAt table n = rw (le-ltb n (length table / 10) (omega arith)) in
+        bad-row (rowsOf table) ix₀ n ix c h l (out-of-range table ix n noNumbers z refl) ix

@@ -15,7 +15,7 @@ use rows::index::NO_PLACE;
 ghost use mathlib.Core.Path.{_≡_};
 ghost use mathlib.Core.Bool.{true, _&&_, _||_, not};
 ghost use mathlib.Core.Option.{none};
-ghost use Prim.Native.Nat.{_+_, _<_, suc};
+ghost use Prim.Native.Nat.{_+_, _/_, _<_, suc, min};
 ghost use lib.ListN.{length, drop};
 ghost use lib.Dec.{eqb, leb};
 ghost use Rattle.definitions.specs.Basic.{pick, isNone, mostKinds};
@@ -109,20 +109,32 @@ fn row_passes(table: &[u32], place: usize, index: &mut [u8; 256]) -> bool
     enter_row(table, place, index)
 }
 
-// The rows one after the other, up to the first bad one; of a table that passes, all IEIs are entered.
+// How many rows are looked at one by one: those that the table has whole, up to the most places.
+fn whole_rows(table: &[u32]) -> usize
+    ensures { λ r. ⌜ r ≡ min (length (now (table .entry)) / 10) 128 ⌝ }
+{
+    let n = table.len() / 10;
+    if n > MOST_PLACES {
+        return MOST_PLACES;
+    }
+    n
+}
+
+// The rows one after the other, up to the first bad one; of a table that passes, all IEIs are entered. A row behind the whole ones is
+// unfinished or one too many, so that the loop need not ask for either.
 fn check_rows(table: &[u32], index: &mut [u8; 256]) -> Checked
     ensures { λ r. ⌜ (checkedAs r ≡ badFrom 0 (now (index .entry)) (rowsOf (now (table .entry)))) × (badFrom 0 (now (index .entry)) (rowsOf (now (table .entry))) ≡ none → now (index .exit) ≡ indexed 0 (now (index .entry)) (rowsOf (now (table .entry)))) ⌝ }
 {
-    let n = places(table);
+    let n = whole_rows(table);
     let mut k = 0;
     while k < n {
-        if k >= MOST_PLACES {
-            return Checked::BadRow(k);
-        }
         if !row_passes(table, k, index) {
             return Checked::BadRow(k);
         }
         k += 1;
+    }
+    if places(table) > n {
+        return Checked::BadRow(n);
     }
     Checked::Passes
 }
