@@ -4,3 +4,4 @@ pub mod Judging
 pub mod Turns
 pub mod Outputs
 pub mod Written
+pub mod Examples
