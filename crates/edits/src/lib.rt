@@ -4,12 +4,12 @@ mod log;
 
 use crate::log::Judged;
 use crate::log::judge;
+use copying::put_slice;
 use indexing::index::iei_index;
 use kept::MOST_LOG;
 use kept::too_long;
 use logs::order_malformed;
 use octets::part;
-use octets::put_slice;
 use rows::columns::Form;
 use rows::columns::form_at;
 use values::check::PlaceCheck;

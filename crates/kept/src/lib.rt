@@ -1,8 +1,8 @@
 // The kept log: each element that no row took as its octet count in unsigned LEB128, then its octets. A log is a lent buffer
 // and how many of its octets are used.
+use copying::put_slice;
 use octets::MOST_OCTETS;
 use octets::part;
-use octets::put_slice;
 ghost use mathlib.Core.Path.{_≡_};
 ghost use mathlib.Core.List.{_∷_};
 ghost use Prim.Native.Nat.{_+_, _*_, _%_, _≤_, _<_};

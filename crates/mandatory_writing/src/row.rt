@@ -1,5 +1,5 @@
 // One mandatory row: whether its value fits, how long it is written, and writing it.
-use octets::put_slice;
+use copying::put_slice;
 use rows::columns::MandatoryForm;
 ghost use mathlib.Core.Path.{_≡_};
 ghost use mathlib.Core.Bool.{true};

@@ -1,3 +1,2 @@
 -- Laws of the answers that callers cite.
 pub mod Laws
-pub mod Moves

@@ -2,14 +2,9 @@
 ghost use mathlib.Core.Path.{_≡_};
 ghost use Prim.Native.Nat.{_+_, _*_, _≤_};
 ghost use lib.ListN.{length, take, drop};
-ghost use Rattle.definitions.specs.Basic.{over};
 ghost use Rattle.definitions.specs.Octets.{remaining, run, numberAt};
 ghost use Rattle.octets.specs.Answers.{runOf, movedOf, octetOf, pairOf, fourOf, octetsOf};
 ghost use Rattle.octets.specs.Places.{StandsAt};
-
-mod copying;
-
-pub use copying::put_slice;
 
 // The most octets of a part, of received or set octets, and of an element.
 pub const MOST_OCTETS: usize = 65_535;

@@ -2,9 +2,9 @@
 // copied out where there is room. The pass gives up where anything is amiss, where the order log names a place that is not above the one
 // it named before, or where the kept log is too long or the array too short: then nothing is written, and the message has to be measured first.
 use agreement::is_unlike;
+use copying::put_slice;
 use kept::Count;
 use kept::entry_at;
-use octets::put_slice;
 use order::Front;
 use order::Placed;
 use order::entry_len;

@@ -1,6 +1,6 @@
 // One element into the rest of the output: its IEI, its length field, its value. Each function puts the element where its value fits its
 // form, the octet of a half octet can hold it beside its IEI, and there is room; it says how many octets the element takes, or 0.
-use octets::put_slice;
+use copying::put_slice;
 use rows::columns::Form;
 ghost use mathlib.Core.Path.{_≡_};
 ghost use mathlib.Core.Bool.{_||_};

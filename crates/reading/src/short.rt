@@ -3,7 +3,7 @@ use crate::decode::Decoded;
 use crate::decode::Room;
 use crate::fill::fill_elements;
 use crate::measure::Measured;
-use octets::put_slice;
+use copying::put_slice;
 use plain_reading::copy_rows;
 ghost use mathlib.Core.Path.{_≡_};
 ghost use mathlib.Core.Bool.{false};

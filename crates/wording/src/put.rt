@@ -1,7 +1,7 @@
 // The pieces of a text, each at a position from which no sum wraps.
+use copying::put_slice;
 use elements::element::Element;
 use elements::element::iei_of;
-use octets::put_slice;
 use order::IgnoredIeReason;
 use order::Placed;
 ghost use mathlib.Core.Path.{_≡_};

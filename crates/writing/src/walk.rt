@@ -1,7 +1,7 @@
 // The walk over the order log that writes, once it is known that there is room. Each piece goes into the rest of the output.
+use copying::put_slice;
 use kept::Count;
 use kept::entry_at;
-use octets::put_slice;
 use order::Front;
 use order::Placed;
 use order::entry_len;

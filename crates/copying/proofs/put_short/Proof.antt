@@ -2,10 +2,10 @@
 -- With no octet, nothing is put.
 use native.Mathlib.Omega.{arith}
 use mathlib.Core.Path.{sym}
-use Rattle.octets.proofs.Moves.{over-empty}
+use Rattle.copying.proofs.Moves.{over-empty}
 use borrow.Author.Needs.{needs}
-use Rattle.octets.proofs.copying.put_short.Statement.{statement}
-use Rattle.octets.proofs.copying.put_short.Tie as tie
+use Rattle.copying.proofs.put_short.Statement.{statement}
+use Rattle.copying.proofs.put_short.Tie as tie
 
 put-both-requires : tie.Need-put-both-requires
 put-both-requires c κs = search needs

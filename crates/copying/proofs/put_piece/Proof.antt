@@ -1,36 +1,36 @@
--- `put_long` holds the octets, then puts them: first what is held is what was taken, then what is put is what was held.
+-- `put_piece` holds the octets, then puts them: first what is held is what was taken, then what is put is what was held.
 -- The first invariant is of the array, the second of the buffer.
-use Prim.Native.Nat.{ℕ, _≤_, _-_}
+use Prim.Native.Nat.{_≤_, _-_}
 use native.Mathlib.Omega.{arith}
 use mathlib.Core.Path.{_≡_, refl}
 use mathlib.Core.List.{_++_}
-use lib.ListN.{length, take, drop, length-set, length-replicate}
-use lib.Seq.{take-length}
+use lib.ListN.{length, take, drop, length-set}
+use lib.Seq.{length-take-le}
 use Rattle.definitions.proofs.Lists.{copy-step, over-take}
-use Rattle.octets.proofs.Moves.{hold-step, held}
-use Rattle.octets.proofs.copying.put_long.Statement.{statement}
-use Rattle.octets.proofs.copying.put_long.Tie as tie
+use Rattle.copying.proofs.Moves.{hold-step, held}
+use Rattle.copying.proofs.put_piece.Statement.{statement}
+use Rattle.copying.proofs.put_piece.Tie as tie
 
 abbrev Inv-loop : tie.InvT-loop
-Inv-loop out octets held₀ i₀ held i = (i ≤ length octets) × (length held ≡ 65535) × (take i held ≡ take i octets)
+Inv-loop out octets n piece₀ i₀ piece i = (i ≤ n) × (length piece ≡ 16) × (take i piece ≡ take i octets)
 
 abbrev μ-loop : tie.MeasureT-loop
-μ-loop out octets held₀ i₀ held i = length octets - i
+μ-loop out octets n piece₀ i₀ piece i = n - i
 
 abbrev Inv-loop2 : tie.InvT-loop2
-Inv-loop2 out₀ octets held i j₀ out j = (j ≤ length octets) × (length out ≡ length out₀) × (take (length octets) held ≡ take (length octets) octets) × (out ≡ take j octets ++ drop j out₀)
+Inv-loop2 out₀ octets n piece i j₀ out j = (j ≤ n) × (length out ≡ length out₀) × (take n piece ≡ take n octets) × (out ≡ take j octets ++ drop j out₀)
 
 abbrev μ-loop2 : tie.MeasureT-loop2
-μ-loop2 out₀ octets held i j₀ out j = length octets - j
+μ-loop2 out₀ octets n piece i j₀ out j = n - j
 
 loop-holds : tie.Need-loop-holds Inv-loop μ-loop Inv-loop2 μ-loop2
-loop-holds c = (omega arith, length-replicate {A = ℕ} 65535 0, refl)
+loop-holds c = (omega arith, refl, refl)
 
-shared-slice-read-held : tie.Need-shared-slice-read-held Inv-loop μ-loop Inv-loop2 μ-loop2
-shared-slice-read-held c = omega arith
+shared-slice-read-piece : tie.Need-shared-slice-read-piece Inv-loop μ-loop Inv-loop2 μ-loop2
+shared-slice-read-piece c = omega arith
 
-array-write-held : tie.Need-array-write-held Inv-loop μ-loop Inv-loop2 μ-loop2
-array-write-held c = omega arith
+array-write-piece : tie.Need-array-write-piece Inv-loop μ-loop Inv-loop2 μ-loop2
+array-write-piece c = omega arith
 
 add-i : tie.Need-add-i Inv-loop μ-loop Inv-loop2 μ-loop2
 add-i c = omega arith
@@ -42,12 +42,12 @@ loop-again : tie.Need-loop-again Inv-loop μ-loop Inv-loop2 μ-loop2
 loop-again c =
     let a = c .before .before .before .args in
     let l = c .before .before .loop in
-    (omega arith, simp length-set (l .inv .1), hold-step (a .octets .now) (l .held) (l .i) (omega arith) (omega arith) (l .inv .2))
+    (omega arith, simp length-set (l .inv .1), hold-step (a .octets .now) (l .piece) (l .i) (omega arith) (omega arith) (l .inv .2))
 
 loop2-holds : tie.Need-loop2-holds Inv-loop μ-loop Inv-loop2 μ-loop2
 loop2-holds c =
     let l = c .before .loop in
-    let e : l .i ≡ length (c .before .before .args .octets .now) = omega arith in
+    let e : l .i ≡ c .before .before .args .n = omega arith in
     (omega arith, refl, rw e at (l .inv .2), refl)
 
 array-read-out : tie.Need-array-read-out Inv-loop μ-loop Inv-loop2 μ-loop2
@@ -65,12 +65,12 @@ loop2-less c = omega arith
 loop2-again : tie.Need-loop2-again Inv-loop μ-loop Inv-loop2 μ-loop2
 loop2-again c =
     let a = c .before .before .before .before .args in
-    let p = c .before .before .before .loop .held in
+    let p = c .before .before .before .loop .piece in
     let l = c .before .loop2 in (
       omega arith,
       simp length-set (l .inv .1),
       l .inv .2,
-      rw (held (a .octets .now) p (length (a .octets .now)) (l .j) (omega arith) (l .inv .2), l .inv .3) (copy-step (a .octets .now) (a .out .now) (l .j) (omega arith) (omega arith)),
+      rw (held (a .octets .now) p (a .n) (l .j) (omega arith) (l .inv .2), l .inv .3) (copy-step (a .octets .now) (a .out .now) (l .j) (omega arith) (omega arith)),
     )
 
 same-length : tie.Need-same-length Inv-loop μ-loop Inv-loop2 μ-loop2
@@ -80,11 +80,11 @@ returns : tie.Need-returns Inv-loop μ-loop Inv-loop2 μ-loop2
 returns c =
     let a = c .before .before .before .before .args in
     let l = c .before .loop2 in
-    let e : l .j ≡ length (a .octets .now) = omega arith in
-    rw (over-take (a .octets .now) (a .out .now) (length (a .octets .now)) refl) (rw (e, take-length (a .octets .now)) at (l .inv .3))
+    let e : l .j ≡ a .n = omega arith in
+    rw (over-take (take (a .n) (a .octets .now)) (a .out .now) (a .n) (length-take-le (a .n) (a .octets .now) (omega arith))) (rw e at (l .inv .3))
 
-pub put-long-spec : {M : Type 1} → statement M
-put-long-spec =
+pub put-piece-spec : {M : Type 1} → statement M
+put-piece-spec =
     tie.close
     (tie.spec
     Inv-loop
@@ -92,8 +92,8 @@ put-long-spec =
     Inv-loop2
     μ-loop2
     loop-holds
-    shared-slice-read-held
-    array-write-held
+    shared-slice-read-piece
+    array-write-piece
     add-i
     loop-less
     loop-again

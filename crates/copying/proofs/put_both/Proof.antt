@@ -8,10 +8,10 @@ use lib.ListN.{length, take, drop, length-drop}
 use lib.Seq.{take-all, length-take-le}
 use Rattle.definitions.specs.Basic.{over}
 use Rattle.definitions.proofs.Lists.{lent-over, to-end, length-over}
-use Rattle.octets.proofs.Moves.{two-moves}
+use Rattle.copying.proofs.Moves.{two-moves}
 use borrow.Author.Needs.{needs}
-use Rattle.octets.proofs.copying.put_both.Statement.{statement}
-use Rattle.octets.proofs.copying.put_both.Tie as tie
+use Rattle.copying.proofs.put_both.Statement.{statement}
+use Rattle.copying.proofs.put_both.Tie as tie
 
 put-piece-requires : tie.Need-put-piece-requires
 put-piece-requires c κs = search needs

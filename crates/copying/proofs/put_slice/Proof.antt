@@ -4,8 +4,8 @@ use native.Mathlib.Omega.{arith}
 use lib.ListN.{length, length-take}
 use lib.Seq.{take-all}
 use borrow.Author.Needs.{needs}
-use Rattle.octets.proofs.copying.put_slice.Statement.{statement}
-use Rattle.octets.proofs.copying.put_slice.Tie as tie
+use Rattle.copying.proofs.put_slice.Statement.{statement}
+use Rattle.copying.proofs.put_slice.Tie as tie
 
 put-all-requires : tie.Need-put-all-requires
 put-all-requires c κs = search needs

@@ -8,8 +8,8 @@ use lib.ListN.{length, take, drop, length-set}
 use lib.Seq.{take-all}
 use Rattle.definitions.specs.Basic.{over}
 use Rattle.definitions.proofs.Lists.{copy-step}
-use Rattle.octets.proofs.copying.put_any.Statement.{statement}
-use Rattle.octets.proofs.copying.put_any.Tie as tie
+use Rattle.copying.proofs.put_any.Statement.{statement}
+use Rattle.copying.proofs.put_any.Tie as tie
 
 abbrev Inv-loop : tie.InvT-loop
 Inv-loop out₀ octets i₀ out i = (i ≤ length octets) × (length out ≡ length out₀) × (out ≡ take i octets ++ drop i out₀)

@@ -1,0 +1,2 @@
+-- Laws of octets held in a local array and put out of it.
+mod Moves
