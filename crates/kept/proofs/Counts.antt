@@ -130,3 +130,10 @@ module _ (s : List ℕ) {v t : ℕ} (e : Found.Is v t ≡ countOf (countAt s)) w
 pub entry-not : (s : List ℕ) → Found.Not ≡ countOf (countAt s) → Found.Not ≡ countOf (entryOf s (countAt s))
 unfolding entryOf
 entry-not s e = rw (count-not (countAt s) e)
+
+-- a count of one octet with its element behind it
+pub like : (s : List ℕ) (n : ℕ) → 1 ≤ n → n < 128 → n < length s → getD s 0 0 ≡ n → entryOf s (countAt s) ≡ some (record { value = n; took = 1 })
+unfolding allowed entryOf
+like s n h a l e =
+    let c : countAt s ≡ some (record { value = n; took = 1 }) = one s (omega arith) (omega arith) ∙ rw (e, le-leb 1 n h, le-leb n 65535 (omega arith)) in
+    rw (c, le-leb n (length (drop 1 s)) (simp length-drop (omega arith)))

@@ -5,6 +5,7 @@ use octets::MOST_OCTETS;
 use octets::part;
 ghost use mathlib.Core.Path.{_≡_};
 ghost use mathlib.Core.List.{_∷_};
+ghost use mathlib.Core.Bool.{true};
 ghost use Prim.Native.Nat.{_+_, _*_, _%_, _≤_, _<_};
 ghost use lib.ListN.{length, drop};
 ghost use Rattle.definitions.specs.Basic.{over, tooLong};
@@ -133,6 +134,33 @@ pub fn entry_at(s: &[u8]) -> Count
         }
         Count::Not => Count::Not,
     }
+}
+
+// Whether the entry at the front has n octets, behind a count of one octet.
+fn is_like(s: &[u8], n: usize) -> bool
+    ensures { λ r. ⌜ (r ≡ true → entryOf (now (s .entry)) (countAt (now (s .entry))) ≡ countFrom n 1) ⌝ }
+{
+    if n < 1 {
+        return false;
+    }
+    if n > 127 {
+        return false;
+    }
+    if n >= s.len() {
+        return false;
+    }
+    s[0] == (n as u8)
+}
+
+// As `entry_at`, for a caller who expects n octets, as the entry before had: a count that is only compared with n need not be waited
+// for to know where the next entry begins.
+pub fn entry_like(s: &[u8], n: usize) -> Count
+    ensures { λ r. ⌜ r ≡ countOf (entryOf (now (s .entry)) (countAt (now (s .entry)))) ⌝ }
+{
+    if is_like(s, n) {
+        return Count::Is(n, 1);
+    }
+    entry_at(s)
 }
 
 // Past the entry at a position; the one wanted is remembered.

@@ -1,6 +1,6 @@
 // Whether a log is well formed: each by itself, as writing asks, and both at once, as the findings do.
 use kept::Count;
-use kept::entry_at;
+use kept::entry_like;
 use order::Front;
 use order::entry_len;
 use order::front_at;
@@ -40,15 +40,17 @@ pub fn order_malformed(order: &[u8]) -> bool
     false
 }
 
-// A kept log measured to its end.
+// A kept log measured to its end. Entries of like length often stand together, so each is expected to be as long as the one before.
 pub fn kept_len(kept: &[u8]) -> Kept
     ensures { λ r. ⌜ r ≡ keptOctets (keptList (now (kept .entry))) ⌝ }
 {
     let mut at = 0;
     let mut octets = 0;
+    let mut before = 1;
     while at < kept.len() {
-        match entry_at(&kept[at..]) {
+        match entry_like(&kept[at..], before) {
             Count::Is(value, took) => {
+                before = value;
                 octets += value;
                 at += took + value;
             }

@@ -5,6 +5,7 @@ pub mod Places
 pub mod Tallying
 pub mod Surveying
 pub mod Walking
+pub mod Runs
 pub mod Encoding
 pub mod Passing
 pub mod SameAnswers

@@ -17,7 +17,7 @@ use Rattle.definitions.proofs.Lists.{over-next, over-none, lent-over, length-ov
 use Rattle.values.specs.Rows.{valueOf, sourcesOf}
 use Rattle.values.specs.declared.row.ValueRow.{ValueRow}
 use Rattle.putting.specs.Puts.{addable, puts, PutIf}
-use Rattle.putting.proofs.Putting.{put-yes, all-there, whole}
+use Rattle.putting.proofs.Putting.{put-yes, all-there}
 use Rattle.writing.specs.Puts.{PutAt}
 use Rattle.writing.specs.Walks.{filledOf, Writable, Left}
 use Rattle.writing.proofs.Places.{there, fits-there}
@@ -50,12 +50,8 @@ put-as e l = rw e at l
 
 -- octets, or an element, put from a position on
 module _ (at : ℕ) (v d : List ℕ) (room : at + length v ≤ length d) where
-  put-from : {n : ℕ} {ys : List ℕ} → n ≡ length v → ys ≡ over v (take (length d - at) (drop at d)) → PutAt at v d (at + n) (putMid at (length d - at) d ys)
+  pub put-from : {n : ℕ} {ys : List ℕ} → n ≡ length v → ys ≡ over v (take (length d - at) (drop at d)) → PutAt at v d (at + n) (putMid at (length d - at) d ys)
   put-from {n = n} {ys = ys} e q = record { behind = ap (λ (k : ℕ). at + k) e; octets = rw q (lent-over at v d (omega arith)) }
-
-  pub put-octets : {n : ℕ} {ys : List ℕ} → n ≡ length v → ys ≡ over (take (length (take (length d - at) (drop at d))) v) (take (length d - at) (drop at d))
-      → PutAt at v d (at + n) (putMid at (length d - at) d ys)
-  put-octets e q = put-from e (whole v (take (length d - at) (drop at d)) (simp (length-take, length-drop) (omega arith)) q)
 
 -- nothing put
 pub put-nothing : (at : ℕ) (d : List ℕ) → PutAt at [] d at d

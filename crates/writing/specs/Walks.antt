@@ -56,6 +56,22 @@ pub record PutKept (kept : List ℕ) (p : Pen) (before : List ℕ) (r : Pen) (af
   pub further : p .kept < length kept → p .kept < r .kept
   pub place : r .place ≡ p .place
 
+-- the octets of the next n, as far as there are any, and the elements behind them
+unfoldable pub nextsOf : ℕ → List (List ℕ) → List ℕ
+nextsOf zero ks = []
+nextsOf (suc n) ks = nextOf ks ++ nextsOf n (restOf ks)
+
+unfoldable pub behindOf : ℕ → List (List ℕ) → List (List ℕ)
+behindOf zero ks = ks
+behindOf (suc n) ks = behindOf n (restOf ks)
+
+-- behind the next n kept elements
+pub record PutRun (kept : List ℕ) (n : ℕ) (p : Pen) (before : List ℕ) (r : Pen) (after : List ℕ) : Type 0 where
+  pub put : PutAt (p .at) (nextsOf n (keptFrom kept (p .kept))) before (r .at) after
+  pub kept-at : KeptAt kept (r .kept)
+  pub rest : keptFrom kept (r .kept) ≡ behindOf n (keptFrom kept (p .kept))
+  pub place : r .place ≡ p .place
+
 -- ---- an entry
 
 -- of a known IEI with a place, or without

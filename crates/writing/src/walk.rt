@@ -1,7 +1,7 @@
 // The walk over the order log that writes, once it is known that there is room. Each piece goes into the rest of the output.
 use copying::put_slice;
 use kept::Count;
-use kept::entry_at;
+use kept::entry_like;
 use order::Front;
 use order::Placed;
 use order::entry_len;
@@ -20,8 +20,8 @@ use values::row::value_octets;
 ghost use mathlib.Core.Path.{_≡_};
 ghost use mathlib.Core.List.{[]};
 ghost use mathlib.Core.Option.{some};
-ghost use Prim.Native.Nat.{_+_, _≤_, _<_, max};
-ghost use lib.ListN.{length};
+ghost use Prim.Native.Nat.{ℕ, _+_, _≤_, _<_, max};
+ghost use lib.ListN.{length, getD};
 ghost use Rattle.definitions.specs.Basic.{over, overAt, concat};
 ghost use Rattle.definitions.specs.Rows.{rowsOf, rowAt, form, placeOf};
 ghost use Rattle.definitions.specs.Logs.{orderList, orEmpty};
@@ -31,14 +31,15 @@ ghost use Rattle.definitions.proofs.LogSteps.{KeptAt, keptFrom};
 ghost use Rattle.order.specs.Order.{placedAs};
 ghost use Rattle.seen.specs.Seen.{setOf};
 ghost use Rattle.writing.specs.Puts.{PutAt};
-ghost use Rattle.writing.specs.Walks.{filledOf, Writable, IndexIs, addedPiece, addedOctets, nextOf, PutKept, knownPiece, knownPlace, pieceOf, PutEntry, leftOf, Writing};
+ghost use Rattle.writing.specs.Walks.{filledOf, Writable, IndexIs, addedPiece, addedOctets, nextOf, PutKept, nextsOf, PutRun, knownPiece, knownPlace, pieceOf, PutEntry, leftOf, Writing};
 
-// Where writing is: the position in the output, the position in the kept log, and the place below which every added element is
-// written.
+// Where writing is: the position in the output, the position in the kept log, the place below which every added element is written,
+// and how many octets the last kept element had, as the next is expected to have.
 pub struct Pen {
     pub at: usize,
     pub kept: usize,
     pub place: usize,
+    pub len: usize,
 }
 
 // The element of a place under an IEI, if the place is present; the position behind it.
@@ -150,6 +151,18 @@ fn put_lower<'a>(
     put_added(table, rows, received, set, added, from, to, output, at)
 }
 
+// Octets that have room. One octet is stored right here: a call of the copy would take longer.
+fn put_octets(out: &mut [u8], octets: &[u8])
+    requires { ⌜ length (now octets) ≤ length (now out) ⌝ }
+    ensures { λ r. ⌜ now (out .exit) ≡ over (now (octets .entry)) (now (out .entry)) ⌝ }
+{
+    if octets.len() == 1 {
+        out[0] = octets[0];
+        return;
+    }
+    put_slice(out, octets);
+}
+
 // The next kept element, if there is one.
 fn put_kept(kept: &[u8], pen: Pen, output: &mut [u8]) -> Pen
     requires { ⌜ KeptAt (now kept) (pen .kept) × (pen .at + length (nextOf (keptFrom (now kept) (pen .kept))) ≤ length (now output)) ⌝ }
@@ -157,15 +170,16 @@ fn put_kept(kept: &[u8], pen: Pen, output: &mut [u8]) -> Pen
 {
     let at = pen.at;
     let from = pen.kept;
-    match entry_at(&kept[from..]) {
+    match entry_like(&kept[from..], pen.len) {
         Count::Is(value, took) => {
             let start = from + took;
             let end = start + value;
-            put_slice(&mut output[at..], &kept[start..end]);
+            put_octets(&mut output[at..], &kept[start..end]);
             Pen {
                 at: at + value,
                 kept: end,
                 place: pen.place,
+                len: value,
             }
         }
         Count::Not => pen,
@@ -215,6 +229,7 @@ fn put_known<'a>(
                 at: next,
                 kept: pen.kept,
                 place: higher(pen.place, k),
+                len: pen.len,
             }
         }
         Place::Nowhere => pen,
@@ -244,6 +259,34 @@ fn put_entry<'a>(
     }
 }
 
+// How many entries at the front of a log are none of a known element: each is one octet, and not 0.
+fn asides(order: &[u8]) -> usize
+    ensures { λ r. ⌜ (r ≤ length (now (order .entry))) × ((j : ℕ) → j < r → 1 ≤ getD (now (order .entry)) j 0) ⌝ }
+{
+    let mut n = 0;
+    while n < order.len() {
+        if order[n] == 0 {
+            return n;
+        }
+        n += 1;
+    }
+    n
+}
+
+// The next n kept elements, as far as there are any: those of a run of entries, in a loop that has nothing else to hold.
+fn put_run(kept: &[u8], pen: Pen, n: usize, output: &mut [u8]) -> Pen
+    requires { ⌜ KeptAt (now kept) (pen .kept) × (pen .at + length (nextsOf n (keptFrom (now kept) (pen .kept))) ≤ length (now output)) ⌝ }
+    ensures { λ r. ⌜ PutRun (now (kept .entry)) n pen (now (output .entry)) r (now (output .exit)) ⌝ }
+{
+    let mut p = pen;
+    let mut i = 0;
+    while i < n {
+        p = put_kept(kept, p, output);
+        i += 1;
+    }
+    p
+}
+
 // The whole order log.
 fn put_entries<'a>(
     table: &[u32],
@@ -263,27 +306,34 @@ fn put_entries<'a>(
         at: 0,
         kept: 0,
         place: 0,
+        len: 1,
     };
     let mut from = 0;
     while from < order.len() {
-        match front_at(&order[from..]) {
-            Front::Is(entry) => {
-                pen = put_entry(
-                    table,
-                    index,
-                    rows,
-                    received,
-                    set,
-                    kept,
-                    added,
-                    entry,
-                    pen,
-                    output,
-                );
-                from += entry_len(entry);
-            }
-            Front::Not => {
-                return pen;
+        let n = asides(&order[from..]);
+        if n > 0 {
+            pen = put_run(kept, pen, n, output);
+            from += n;
+        } else {
+            match front_at(&order[from..]) {
+                Front::Is(entry) => {
+                    pen = put_entry(
+                        table,
+                        index,
+                        rows,
+                        received,
+                        set,
+                        kept,
+                        added,
+                        entry,
+                        pen,
+                        output,
+                    );
+                    from += entry_len(entry);
+                }
+                Front::Not => {
+                    return pen;
+                }
             }
         }
     }
@@ -344,6 +394,7 @@ pub(crate) fn write<'a>(
             at,
             kept: pen.kept,
             place: pen.place,
+            len: pen.len,
         },
         output,
     );

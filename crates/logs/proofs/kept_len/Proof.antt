@@ -15,32 +15,32 @@ use Rattle.logs.proofs.kept_len.Statement.{statement}
 use Rattle.logs.proofs.kept_len.Tie as tie
 
 abbrev Inv-loop : tie.InvT-loop
-Inv-loop kept at₀ octets₀ at octets = Keeping kept at octets
+Inv-loop kept at₀ octets₀ before₀ at octets before = Keeping kept at octets
 
 abbrev μ-loop : tie.MeasureT-loop
-μ-loop kept at₀ octets₀ at octets = length kept - at
+μ-loop kept at₀ octets₀ before₀ at octets before = length kept - at
 
 loop-holds : tie.Need-loop-holds Inv-loop μ-loop
 loop-holds c = keeping-begun _
 
-sub-entry-at : tie.Need-sub-entry-at Inv-loop μ-loop
-sub-entry-at c = search needs
+sub-entry-like : tie.Need-sub-entry-like Inv-loop μ-loop
+sub-entry-like c = search needs
 
-part-entry-at-start : tie.Need-part-entry-at-start Inv-loop μ-loop
-part-entry-at-start c = search needs
+part-entry-like-start : tie.Need-part-entry-like-start Inv-loop μ-loop
+part-entry-like-start c = search needs
 
-part-entry-at-end : tie.Need-part-entry-at-end Inv-loop μ-loop
-part-entry-at-end c = search needs
+part-entry-like-end : tie.Need-part-entry-like-end Inv-loop μ-loop
+part-entry-like-end c = search needs
 
-entry-at-requires : tie.Need-entry-at-requires Inv-loop μ-loop
-entry-at-requires c κs = search needs
+entry-like-requires : tie.Need-entry-like-requires Inv-loop μ-loop
+entry-like-requires c κs = search needs
 
 enum-known-value : tie.Need-enum-known-value Inv-loop μ-loop
 enum-known-value c = search needs
 
 -- the entry at the position
 split : (c : tie.After-known-told Inv-loop μ-loop) → KeptEntry (c .before .before .before .before .before .before .before .before .args .kept .now) (c .before .before .before .before .before .before .loop .at) (record { value = c .before .value .given .0 .0; took = c .before .value .given .0 .1 .0 })
-split c = kept-split _ _ (c .before .before .before .before .before .before .loop .inv .left .inside) (count-is _ (sym (c .before .value .given .1) ∙ rw to-end at (c .before .before .before .entry-at .ensures)))
+split c = kept-split _ _ (c .before .before .before .before .before .before .loop .inv .left .inside) (count-is _ (sym (c .before .value .given .1) ∙ rw to-end at (c .before .before .before .entry-like .ensures)))
 
 add-octets : tie.Need-add-octets Inv-loop μ-loop
 add-octets c = omega (arith, split c .within, c .before .before .before .before .before .before .loop .inv .few)
@@ -63,7 +63,7 @@ enum-told c = search needs
 returns : tie.Need-returns Inv-loop μ-loop
 returns c =
     let s = drop (c .before .before .before .before .before .loop .at) (c .before .before .before .before .before .before .before .args .kept .now) in
-    keeping-stopped _ _ _ (c .before .before .before .before .before .loop .inv) (kept-stop _ _ (c .before .before .before .before .loop-test .taken) (count-not (entryOf s (countAt s)) (sym (c .enum-told .given .1) ∙ rw to-end at (c .before .before .entry-at .ensures))))
+    keeping-stopped _ _ _ (c .before .before .before .before .before .loop .inv) (kept-stop _ _ (c .before .before .before .before .loop-test .taken) (count-not (entryOf s (countAt s)) (sym (c .enum-told .given .1) ∙ rw to-end at (c .before .before .entry-like .ensures))))
 
 returns-2 : tie.Need-returns-2 Inv-loop μ-loop
 returns-2 c = keeping-ended _ _ _ (c .before .loop .inv) (c .loop-test .left)
@@ -75,10 +75,10 @@ kept-len-spec =
     Inv-loop
     μ-loop
     loop-holds
-    sub-entry-at
-    part-entry-at-start
-    part-entry-at-end
-    entry-at-requires
+    sub-entry-like
+    part-entry-like-start
+    part-entry-like-end
+    entry-like-requires
     enum-known-value
     add-octets
     add-at

@@ -14,22 +14,22 @@ use Rattle.definitions.proofs.LogSteps.{keptFrom, KeptAt, restOf, KeptEntry, ke
 use Rattle.kept.proofs.Counts.{count-is, count-not}
 use Rattle.writing.specs.Puts.{PutAt}
 use Rattle.writing.specs.Walks.{nextOf}
-use Rattle.writing.proofs.Putting.{put-octets, put-nothing}
+use Rattle.writing.proofs.Putting.{put-from, put-nothing}
 use borrow.Author.Needs.{needs}
 use Rattle.writing.proofs.walk.put_kept.Statement.{statement}
 use Rattle.writing.proofs.walk.put_kept.Tie as tie
 
-sub-entry-at : tie.Need-sub-entry-at
-sub-entry-at c = search needs
+sub-entry-like : tie.Need-sub-entry-like
+sub-entry-like c = search needs
 
-part-entry-at-start : tie.Need-part-entry-at-start
-part-entry-at-start c = search needs
+part-entry-like-start : tie.Need-part-entry-like-start
+part-entry-like-start c = search needs
 
-part-entry-at-end : tie.Need-part-entry-at-end
-part-entry-at-end c = search needs
+part-entry-like-end : tie.Need-part-entry-like-end
+part-entry-like-end c = search needs
 
-entry-at-requires : tie.Need-entry-at-requires
-entry-at-requires c κs = search needs
+entry-like-requires : tie.Need-entry-like-requires
+entry-like-requires c κs = search needs
 
 enum-known-value : tie.Need-enum-known-value
 enum-known-value c = search needs
@@ -39,7 +39,7 @@ found : (c : tie.After-known-told) → let a = c .before .before .before .before
 found c =
     let a = c .before .before .before .before .before .before .before .args in
     let s = drop (a .pen .kept) (a .kept .now) in
-    count-is (entryOf s (countAt s)) (sym (c .before .value .given .1) ∙ rw to-end at (c .before .before .before .entry-at .ensures))
+    count-is (entryOf s (countAt s)) (sym (c .before .value .given .1) ∙ rw to-end at (c .before .before .before .entry-like .ensures))
 
 split : (c : tie.After-known-told) → let a = c .before .before .before .before .before .before .before .args in KeptEntry (a .kept .now) (a .pen .kept) (record { value = c .before .value .given .0 .0; took = c .before .value .given .0 .1 .0 })
 split c = kept-split (c .before .before .before .before .before .before .before .args .kept .now) (c .before .before .before .before .before .before .before .args .pen .kept) (c .before .before .before .before .before .before .before .pre .0 .inside) (found c)
@@ -64,26 +64,26 @@ add-start c = let w = split c .within in omega arith
 add-end : tie.Need-add-end
 add-end c = let w = split c .within in omega arith
 
-sub-put-slice : tie.Need-sub-put-slice
-sub-put-slice c = let l = long c in omega arith
+sub-put-octets : tie.Need-sub-put-octets
+sub-put-octets c = let l = long c in omega arith
 
-part-put-slice-start : tie.Need-part-put-slice-start
-part-put-slice-start c = let l = long c in omega arith
+part-put-octets-start : tie.Need-part-put-octets-start
+part-put-octets-start c = let l = long c in omega arith
 
-part-put-slice-end : tie.Need-part-put-slice-end
-part-put-slice-end c = search needs
+part-put-octets-end : tie.Need-part-put-octets-end
+part-put-octets-end c = search needs
 
-sub-put-slice-2 : tie.Need-sub-put-slice-2
-sub-put-slice-2 c = search needs
+sub-put-octets-2 : tie.Need-sub-put-octets-2
+sub-put-octets-2 c = search needs
 
-part-put-slice-start-2 : tie.Need-part-put-slice-start-2
-part-put-slice-start-2 c = search needs
+part-put-octets-start-2 : tie.Need-part-put-octets-start-2
+part-put-octets-start-2 c = search needs
 
-part-put-slice-end-2 : tie.Need-part-put-slice-end-2
-part-put-slice-end-2 c = let w = split (c .before) .within in omega arith
+part-put-octets-end-2 : tie.Need-part-put-octets-end-2
+part-put-octets-end-2 c = let w = split (c .before) .within in omega arith
 
-put-slice-requires : tie.Need-put-slice-requires
-put-slice-requires c κs = search needs
+put-octets-requires : tie.Need-put-octets-requires
+put-octets-requires c κs = let l = long (c .before .before) in let w = split (c .before .before) .within in simp (length-take, length-drop) (omega arith)
 
 add-t18 : tie.Need-add-t18
 add-t18 c = let l = long (c .before .before .before .before .before) in omega arith
@@ -91,13 +91,13 @@ add-t18 c = let l = long (c .before .before .before .before .before) in omega ar
 enum-told : tie.Need-enum-told
 enum-told c = search needs
 
-written : (c : tie.After-slice-known2) → let a = c .before .before .before .before .before .before .before .before .before .before .before .before .args in PutAt (a .pen .at) (element (c .before .before .before .before .before)) (a .output .now) (a .pen .at + c .before .before .before .before .before .before .value .given .0 .0) (putMid (a .pen .at) (length (a .output .now) - a .pen .at) (a .output .now) (c .before .before .put-slice .last .0))
+written : (c : tie.After-slice-known2) → let a = c .before .before .before .before .before .before .before .before .before .before .before .before .args in PutAt (a .pen .at) (element (c .before .before .before .before .before)) (a .output .now) (a .pen .at + c .before .before .before .before .before .before .value .given .0 .0) (putMid (a .pen .at) (length (a .output .now) - a .pen .at) (a .output .now) (c .before .before .put-octets .last .0))
 written c =
     let a = c .before .before .before .before .before .before .before .before .before .before .before .before .args in
     let l = long (c .before .before .before .before .before) in
     let k = a .pen .kept + c .before .before .before .before .before .before .value .given .0 .1 .0 in
     let z : k + c .before .before .before .before .before .before .value .given .0 .0 - k ≡ c .before .before .before .before .before .before .value .given .0 .0 = omega arith in
-    put-octets (a .pen .at) (element (c .before .before .before .before .before)) (a .output .now) (omega arith) (sym (l .0)) (rw z at (c .before .before .put-slice .ensures))
+    put-from (a .pen .at) (element (c .before .before .before .before .before)) (a .output .now) (omega arith) (sym (l .0)) (rw z at (c .before .before .put-octets .ensures))
 
 same-length : tie.Need-same-length
 same-length c = ap length (written c .octets) ∙ length-overAt (c .before .before .before .before .before .before .before .before .before .before .before .before .args .pen .at) (element (c .before .before .before .before .before)) (c .before .before .before .before .before .before .before .before .before .before .before .before .args .output .now) (let l = long (c .before .before .before .before .before) in omega arith)
@@ -120,7 +120,7 @@ unfolding nextOf restOf
 returns-2 c =
     let a = c .before .before .before .before .before .before .args in
     let s = drop (a .pen .kept) (a .kept .now) in
-    let e = count-not (entryOf s (countAt s)) (sym (c .enum-told .given .1) ∙ rw to-end at (c .before .before .entry-at .ensures)) in
+    let e = count-not (entryOf s (countAt s)) (sym (c .enum-told .given .1) ∙ rw to-end at (c .before .before .entry-like .ensures)) in
     let h = kept-none (a .kept .now) (a .pen .kept) (c .before .before .before .before .before .before .pre .0) e in
     let z = kept-over (a .kept .now) (a .pen .kept) (c .before .before .before .before .before .before .pre .0) h in
     record {
@@ -135,20 +135,20 @@ pub put-kept-spec : {M : Type 1} → statement M
 put-kept-spec =
     tie.close
     (tie.spec
-    sub-entry-at
-    part-entry-at-start
-    part-entry-at-end
-    entry-at-requires
+    sub-entry-like
+    part-entry-like-start
+    part-entry-like-end
+    entry-like-requires
     enum-known-value
     add-start
     add-end
-    sub-put-slice
-    part-put-slice-start
-    part-put-slice-end
-    sub-put-slice-2
-    part-put-slice-start-2
-    part-put-slice-end-2
-    put-slice-requires
+    sub-put-octets
+    part-put-octets-start
+    part-put-octets-end
+    sub-put-octets-2
+    part-put-octets-start-2
+    part-put-octets-end-2
+    put-octets-requires
     add-t18
     enum-told
     same-length

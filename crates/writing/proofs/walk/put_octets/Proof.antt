@@ -1,0 +1,41 @@
+-- `put_octets` stores one octet, and has any other number copied.
+-- One octet in front is what a list of one is put over.
+use native.Mathlib.Omega.{arith}
+use Rattle.putting.proofs.Putting.{whole}
+use Rattle.writing.proofs.Runs.{one-of}
+use borrow.Author.Needs.{needs}
+use Rattle.writing.proofs.walk.put_octets.Statement.{statement}
+use Rattle.writing.proofs.walk.put_octets.Tie as tie
+
+shared-slice-read-out : tie.Need-shared-slice-read-out
+shared-slice-read-out c = search needs
+
+slice-write-out : tie.Need-slice-write-out
+slice-write-out c = search needs
+
+same-length : tie.Need-same-length
+same-length c = search needs
+
+returns : tie.Need-returns
+returns c = one-of _ _ (omega arith) (omega arith)
+
+put-slice-requires : tie.Need-put-slice-requires
+put-slice-requires c κs = search needs
+
+same-length-2 : tie.Need-same-length-2
+same-length-2 c = search needs
+
+returns-2 : tie.Need-returns-2
+returns-2 c = whole _ _ (omega arith) (c .before .before .put-slice .ensures)
+
+pub put-octets-spec : {M : Type 1} → statement M
+put-octets-spec =
+    tie.close
+    (tie.spec
+    shared-slice-read-out
+    slice-write-out
+    same-length
+    returns
+    put-slice-requires
+    same-length-2
+    returns-2)
