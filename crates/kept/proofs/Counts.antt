@@ -132,8 +132,8 @@ unfolding entryOf
 entry-not s e = rw (count-not (countAt s) e)
 
 -- a count of one octet with its element behind it
-pub like : (s : List ℕ) (n : ℕ) → 1 ≤ n → n < 128 → n < length s → getD s 0 0 ≡ n → entryOf s (countAt s) ≡ some (record { value = n; took = 1 })
+pub entry-like : (s : List ℕ) (n : ℕ) → 1 ≤ n → n < 128 → n < length s → getD s 0 0 ≡ n → entryOf s (countAt s) ≡ some (record { value = n; took = 1 })
 unfolding allowed entryOf
-like s n h a l e =
+entry-like s n h a l e =
     let c : countAt s ≡ some (record { value = n; took = 1 }) = one s (omega arith) (omega arith) ∙ rw (e, le-leb 1 n h, le-leb n 65535 (omega arith)) in
     rw (c, le-leb n (length (drop 1 s)) (simp length-drop (omega arith)))

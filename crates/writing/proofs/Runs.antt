@@ -7,16 +7,17 @@ use mathlib.Core.List.{List, [], _∷_, _++_, append-assoc}
 use mathlib.Core.Bool.{Bool, true, false}
 use mathlib.Core.Option.{none, some}
 use borrow.Author.Tests.{ltb-true, ltb-false}
-use lib.ListN.{length, getD, set, drop}
+use lib.ListN.{length, getD, set, drop, length-drop}
 use lib.Seq.{getD-drop}
 use lib.Dec.{ltb}
 use Rattle.definitions.specs.Basic.{over}
 use Rattle.definitions.specs.Rows.{Row, firstBad}
-use Rattle.definitions.specs.Logs.{Placed, notKnown, ignored, Reason, byForm, again, late, orderEntry}
+use Rattle.definitions.specs.Logs.{Placed, knownIei, notKnown, ignored, Reason, byForm, again, late, orderEntry}
 use Rattle.definitions.specs.Writing.{Filled}
 use Rattle.definitions.proofs.Lists.{front-one}
-use Rattle.definitions.proofs.Orders.{orderFront}
+use Rattle.definitions.proofs.Orders.{orderFront, front-known, front-alone, asideBy, front-aside, front-over}
 use Rattle.definitions.proofs.LogSteps.{keptFrom, orderFrom, OrderAt, restOf, keptAfter, order-next, order-never}
+use Rattle.order.proofs.Entries.{one-length}
 use Rattle.writing.specs.Walks.{nextOf, nextsOf, behindOf, PutRun, pieceOf, placeAfter, leftOf, Left, Writing}
 use Rattle.writing.specs.declared.walk.Pen.{Pen}
 use Rattle.writing.proofs.Cursor.{left-step}
@@ -65,49 +66,68 @@ aside-unknown : Aside notKnown
 unfolding orderEntry pieceOf placeAfter keptAfter
 aside-unknown = record { octet = refl; piece = λ m s from ks. refl; place = λ t from. refl; rest = λ ks. refl }
 
-one-octet : (r : Reason) → length (orderEntry (ignored r)) ≡ 1
-unfolding orderEntry
-one-octet byForm = refl
-one-octet again = refl
-one-octet late = refl
-
 aside-ignored : (r : Reason) → Aside (ignored r)
 unfolding pieceOf placeAfter keptAfter
-aside-ignored r = record { octet = one-octet r; piece = λ m s from ks. refl; place = λ t from. refl; rest = λ ks. refl }
+aside-ignored r = record { octet = one-length r; piece = λ m s from ks. refl; place = λ t from. refl; rest = λ ks. refl }
 
-record Front (s : List ℕ) : Type 0 where
-  entry : Placed
-  is : orderFront s ≡ some entry
-  aside : Aside entry
+aside-by : (x : ℕ) → Aside (asideBy x)
+unfolding asideBy
+aside-by zero = aside-unknown
+aside-by (suc zero) = aside-unknown
+aside-by (suc (suc zero)) = aside-ignored byForm
+aside-by (suc (suc (suc zero))) = aside-ignored again
+aside-by (suc (suc (suc (suc n)))) = aside-ignored late
 
-front-aside : (s : List ℕ) → 1 ≤ getD s 0 0 → (orderFront s ≡ none → ⊥) → Front s
-unfolding orderFront
-front-aside [] g f = absurd (f refl)
-front-aside (zero ∷ s) g f = absurd (omega arith)
-front-aside (suc zero ∷ s) g f = record { entry = notKnown; is = refl; aside = aside-unknown }
-front-aside (suc (suc zero) ∷ s) g f = record { entry = ignored byForm; is = refl; aside = aside-ignored byForm }
-front-aside (suc (suc (suc zero)) ∷ s) g f = record { entry = ignored again; is = refl; aside = aside-ignored again }
-front-aside (suc (suc (suc (suc zero))) ∷ s) g f = record { entry = ignored late; is = refl; aside = aside-ignored late }
-front-aside (suc (suc (suc (suc (suc n)))) ∷ s) g f = absurd (f refl)
+-- the entry at a position of a well-formed log by its first octet: at most 4, and a 0 has its IEI behind it
+module _ (order : List ℕ) (at : ℕ) (o : OrderAt order at) (h : at < length order) where
+  abbrev x : ℕ
+  x = getD (drop at order) 0 0
+
+  there : 0 < length (drop at order)
+  there = simp length-drop (omega arith)
+
+  aside-front : 1 ≤ x → orderFront (drop at order) ≡ some (asideBy x)
+  aside-front g = by (ltb 4 x) refl
+    where
+      by : (b : Bool) → ltb 4 x ≡ b → orderFront (drop at order) ≡ some (asideBy x)
+      by true e = absurd (order-never order at h o (front-over (drop at order) there (ltb-true 4 x e)))
+      by false e = front-aside (drop at order) x there refl g (ltb-false 4 x e)
+
+  pub known-inside : x ≡ 0 → at + 1 < length order
+  known-inside e = by (ltb (at + 1) (length order)) refl
+    where
+      by : (b : Bool) → ltb (at + 1) (length order) ≡ b → at + 1 < length order
+      by true q = ltb-true (at + 1) (length order) q
+      by false q =
+          let l = ltb-false (at + 1) (length order) q in
+          absurd (order-never order at h o (front-alone (drop at order) (simp length-drop (omega arith)) e))
+
+  pub known-front : x ≡ 0 → orderFront (drop at order) ≡ some (knownIei (getD order (at + 1) 0))
+  known-front e =
+      let l = known-inside e in
+      front-known (drop at order) (simp length-drop (omega arith)) e ∙ ap (λ (i : ℕ). some (knownIei i)) (getD-drop at order 1 0)
 
 -- ---- what is left to write over a run
 
 module _ (m : Filled) (s : ℕ) (passes : firstBad (m .table) ≡ none) (order : List ℕ) (from : ℕ) (inside : from ≤ length (m .table)) where
   -- over one such entry
   module _ (at : ℕ) (o : OrderAt order at) (h : at < length order) (g : 1 ≤ getD (drop at order) 0 0) (ks : List (List ℕ)) where
-    front : Front (drop at order)
-    front = front-aside (drop at order) g (order-never order at h o)
+    abbrev entry : Placed
+    entry = asideBy (getD (drop at order) 0 0)
 
-    behind : (orderFrom order at ≡ front .entry ∷ orderFrom order (at + 1)) × OrderAt order (at + 1)
-    behind = rw (front .aside .octet) at (order-next order at h o (front .is))
+    aside : Aside entry
+    aside = aside-by (getD (drop at order) 0 0)
+
+    behind : (orderFrom order at ≡ entry ∷ orderFrom order (at + 1)) × OrderAt order (at + 1)
+    behind = rw (aside .octet) at (order-next order at h o (aside-front order at o h g))
 
     one-left : leftOf m s (orderFrom order at) from ks ≡ nextOf ks ++ leftOf m s (orderFrom order (at + 1)) from (restOf ks)
     one-left =
         ap (λ (ps : List Placed). leftOf m s ps from ks) (behind .0)
-        ∙ left-step m s passes from inside (orderFrom order (at + 1)) ks (front .entry)
-        ∙ rw (front .aside .piece m s from ks, front .aside .place (m .table) from, front .aside .rest ks)
+        ∙ left-step m s passes from inside (orderFrom order (at + 1)) ks entry
+        ∙ rw (aside .piece m s from ks, aside .place (m .table) from, aside .rest ks)
 
-  pub run-left : (n at : ℕ) → OrderAt order at → at + n ≤ length order → NoZero (drop at order) n → (ks : List (List ℕ))
+  run-left : (n at : ℕ) → OrderAt order at → at + n ≤ length order → NoZero (drop at order) n → (ks : List (List ℕ))
       → (leftOf m s (orderFrom order at) from ks ≡ nextsOf n ks ++ leftOf m s (orderFrom order (at + n)) from (behindOf n ks)) × OrderAt order (at + n)
   unfolding nextsOf behindOf
   run-left zero at o h g ks = let z : at + 0 ≡ at = omega arith in rw z (refl, o)

@@ -8,12 +8,12 @@ use mathlib.Core.Option.{none, some}
 use lib.ListN.{length, drop}
 use Rattle.definitions.specs.Basic.{over, overAt, concat}
 use Rattle.definitions.specs.Rows.{firstBad, placeOf}
-use Rattle.definitions.specs.Logs.{Placed, knownIei, notKnown, ignored, Reason, orderEntry}
+use Rattle.definitions.specs.Logs.{Placed, knownIei, orderEntry}
 use Rattle.definitions.specs.Writing.{Filled}
 use Rattle.definitions.proofs.Orders.{orderFront}
 use Rattle.definitions.proofs.LogSteps.{keptFrom, KeptAt, orderFrom, OrderAt, keptAfter, order-next}
 use Rattle.writing.specs.Puts.{PutAt}
-use Rattle.writing.specs.Walks.{addedOctets, PutKept, knownPiece, knownPlace, pieceOf, placeAfter, PutEntry, leftOf, Left, Writing}
+use Rattle.writing.specs.Walks.{addedOctets, knownPiece, knownPlace, pieceOf, placeAfter, PutEntry, leftOf, Left, Writing}
 use Rattle.writing.specs.declared.walk.Pen.{Pen}
 use Rattle.writing.proofs.Cursor.{left-step, place-inside, left-end}
 use Rattle.writing.proofs.Putting.{put-room, put-step, put-as}
@@ -25,14 +25,6 @@ module _ (m : Filled) (s : ℕ) (kept : List ℕ) where
       → r .kept ≡ p .kept → r .place ≡ knownPlace (p .place) (placeOf (m .table) i) → PutEntry m s kept (knownIei i) p before r after
   unfolding pieceOf placeAfter keptAfter
   entry-known k a b c = record { put = a; kept-at = rw b k; rest = ap (keptFrom kept) b; place = c }
-
-  pub entry-unknown : {p r : Pen} {before after : List ℕ} → PutKept kept p before r after → PutEntry m s kept notKnown p before r after
-  unfolding pieceOf placeAfter keptAfter
-  entry-unknown k = record { put = k .put; kept-at = k .kept-at; rest = k .rest; place = k .place }
-
-  pub entry-ignored : {p r : Pen} {before after : List ℕ} (x : Reason) → PutKept kept p before r after → PutEntry m s kept (ignored x) p before r after
-  unfolding pieceOf placeAfter keptAfter
-  entry-ignored x k = record { put = k .put; kept-at = k .kept-at; rest = k .rest; place = k .place }
 
   -- ---- the walk
 

@@ -2,10 +2,6 @@
 use copying::put_slice;
 use kept::Count;
 use kept::entry_like;
-use order::Front;
-use order::Placed;
-use order::entry_len;
-use order::front_at;
 use putting::put_ie;
 use rows::columns::form_of;
 use rows::columns::numbers_at;
@@ -28,10 +24,9 @@ ghost use Rattle.definitions.specs.Logs.{orderList, orEmpty};
 ghost use Rattle.definitions.specs.Writing.{elementAt};
 ghost use Rattle.definitions.proofs.RowLaws.{Bears};
 ghost use Rattle.definitions.proofs.LogSteps.{KeptAt, keptFrom};
-ghost use Rattle.order.specs.Order.{placedAs};
 ghost use Rattle.seen.specs.Seen.{setOf};
 ghost use Rattle.writing.specs.Puts.{PutAt};
-ghost use Rattle.writing.specs.Walks.{filledOf, Writable, IndexIs, addedPiece, addedOctets, nextOf, PutKept, nextsOf, PutRun, knownPiece, knownPlace, pieceOf, PutEntry, leftOf, Writing};
+ghost use Rattle.writing.specs.Walks.{filledOf, Writable, IndexIs, addedPiece, addedOctets, nextOf, PutKept, nextsOf, PutRun, knownPiece, knownPlace, leftOf, Writing};
 
 // Where writing is: the position in the output, the position in the kept log, the place below which every added element is written,
 // and how many octets the last kept element had, as the next is expected to have.
@@ -236,32 +231,9 @@ fn put_known<'a>(
     }
 }
 
-// An entry of the order log.
-fn put_entry<'a>(
-    table: &[u32],
-    index: &[u8],
-    rows: &[u32],
-    received: &'a [u8],
-    set: &'a [u8],
-    kept: &[u8],
-    added: Seen,
-    entry: Placed,
-    pen: Pen,
-    output: &mut [u8],
-) -> Pen
-    requires { ⌜ Writable (now table) (now rows) (now received) (now set) × IndexIs (now table) (now index) × KeptAt (now kept) (pen .kept) × (pen .at + length (pieceOf (filledOf (now table) (now rows) (now received) (now set)) (setOf added) (placedAs entry) (pen .place) (keptFrom (now kept) (pen .kept))) ≤ length (now output)) ⌝ }
-    ensures { λ r. ⌜ PutEntry (filledOf (now (table .entry)) (now (rows .entry)) (now (received .entry)) (now (set .entry))) (setOf added) (now (kept .entry)) (placedAs entry) pen (now (output .entry)) r (now (output .exit)) ⌝ }
-{
-    match entry {
-        Placed::Known(iei) => put_known(table, index, rows, received, set, added, iei, pen, output),
-        Placed::Unknown => put_kept(kept, pen, output),
-        Placed::Ignored(_) => put_kept(kept, pen, output),
-    }
-}
-
-// How many entries at the front of a log are none of a known element: each is one octet, and not 0.
+// How many entries at the front of a log are none of a known element: each is one octet, and not 0, with which that of a known one begins.
 fn asides(order: &[u8]) -> usize
-    ensures { λ r. ⌜ (r ≤ length (now (order .entry))) × ((j : ℕ) → j < r → 1 ≤ getD (now (order .entry)) j 0) ⌝ }
+    ensures { λ r. ⌜ (r ≤ length (now (order .entry))) × ((j : ℕ) → j < r → 1 ≤ getD (now (order .entry)) j 0) × (r < length (now (order .entry)) → getD (now (order .entry)) r 0 ≡ 0) ⌝ }
 {
     let mut n = 0;
     while n < order.len() {
@@ -287,7 +259,7 @@ fn put_run(kept: &[u8], pen: Pen, n: usize, output: &mut [u8]) -> Pen
     p
 }
 
-// The whole order log.
+// The whole order log: a run of entries, or one of a known element, which is 0 and its IEI.
 fn put_entries<'a>(
     table: &[u32],
     index: &[u8],
@@ -315,26 +287,9 @@ fn put_entries<'a>(
             pen = put_run(kept, pen, n, output);
             from += n;
         } else {
-            match front_at(&order[from..]) {
-                Front::Is(entry) => {
-                    pen = put_entry(
-                        table,
-                        index,
-                        rows,
-                        received,
-                        set,
-                        kept,
-                        added,
-                        entry,
-                        pen,
-                        output,
-                    );
-                    from += entry_len(entry);
-                }
-                Front::Not => {
-                    return pen;
-                }
-            }
+            let iei = order[from + 1];
+            pen = put_known(table, index, rows, received, set, added, iei, pen, output);
+            from += 2;
         }
     }
     pen

@@ -3,7 +3,7 @@
 use native.Mathlib.Omega.{arith}
 use mathlib.Core.Bool.{false≢true}
 use borrow.Author.Tests.{eqb-true}
-use Rattle.kept.proofs.Counts.{like}
+use Rattle.kept.proofs.Counts.{entry-like}
 use borrow.Author.Needs.{needs}
 use Rattle.kept.proofs.is_like.Statement.{statement}
 use Rattle.kept.proofs.is_like.Tie as tie
@@ -24,7 +24,7 @@ cast-result : tie.Need-cast-result
 cast-result c = search needs
 
 returns-4 : tie.Need-returns-4
-returns-4 c = λ q. like (c .before .before .before .before .args .s .now) (c .before .before .before .before .args .n) (omega arith) (omega arith) (omega arith) (eqb-true _ _ q)
+returns-4 c = λ q. entry-like (c .before .before .before .before .args .s .now) (c .before .before .before .before .args .n) (omega arith) (omega arith) (omega arith) (eqb-true _ _ q)
 
 pub is-like-spec : {M : Type 1} → statement M
 is-like-spec =

@@ -20,7 +20,7 @@ shared-slice-read-if1 : tie.Need-shared-slice-read-if1 Inv-loop μ-loop
 shared-slice-read-if1 c = search needs
 
 returns : tie.Need-returns Inv-loop μ-loop
-returns c = c .before .before .before .loop .inv
+returns c = (c .before .before .before .loop .inv .0, c .before .before .before .loop .inv .1, λ h. omega arith)
 
 add-n : tie.Need-add-n Inv-loop μ-loop
 add-n c = omega arith
@@ -32,7 +32,7 @@ loop-again : tie.Need-loop-again Inv-loop μ-loop
 loop-again c = (omega arith, no-zero-more (c .before .before .before .before .args .order .now) (c .before .before .before .loop .n) (c .before .before .before .loop .inv .1) (omega arith))
 
 returns-2 : tie.Need-returns-2 Inv-loop μ-loop
-returns-2 c = c .before .loop .inv
+returns-2 c = (c .before .loop .inv .0, c .before .loop .inv .1, λ h. absurd (omega arith))
 
 pub asides-spec : {M : Type 1} → statement M
 asides-spec =
