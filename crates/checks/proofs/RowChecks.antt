@@ -1,17 +1,18 @@
 -- The check of a row by its numbers taken at once, of any table.
 -- A row that is not whole has no set of kinds, and is out of range either way.
-use Prim.Native.Nat.{ℕ, _*_, _/_, _≤_, _<_, min}
+use Prim.Native.Nat.{ℕ, _*_, _/_, _≤_, _<_}
 use native.Mathlib.Omega.{arith}
 use mathlib.Core.Path.{_≡_, refl, ap, sym, _∙_}
 use mathlib.Core.List.{List, [], _∷_}
 use mathlib.Core.Option.{some}
-use mathlib.Core.Bool.{Bool, true, false, _&&_, and-true, false≢true}
+use mathlib.Core.Bool.{Bool, true, false, _&&_, _||_, not, and-true, and-false, and-assoc, false≢true}
 use borrow.Author.Tests.{lt-ltb, le-ltb, ltb-true, ltb-false, le-leb, lt-leb, leb-true, leb-false}
 use lib.ListN.{length, getD, drop}
 use lib.Seq.{getD-drop}
 use lib.Dec.{ltb, leb, eqb, lit<}
-use Rattle.definitions.specs.Basic.{pick}
+use Rattle.definitions.specs.Basic.{pick, mostKinds}
 use Rattle.definitions.specs.Rows.{Row, rowOf, rowsOf, rowAt, ieis, goodIei}
+use Rattle.definitions.proofs.RowLaws.{both}
 use Rattle.definitions.proofs.TableLaws.{past, row-at, iei-at, iei-count, count-is}
 use Rattle.rows.specs.Numbers.{numbersOf, noNumbers, numbersAt}
 use Rattle.rows.specs.declared.columns.Numbers.{Numbers}
@@ -23,6 +24,36 @@ single : (l : List ℕ) → length l ≡ 1 → l ≡ getD l 0 0 ∷ []
 single [] e = absurd (omega arith)
 single (x ∷ []) e = refl
 single (x ∷ y ∷ l) e = absurd (omega arith)
+
+-- ---- the ranges, in the order in which they are tested
+
+module _ (code size least greatest kinds : ℕ) where
+  abbrev range : Bool
+  range = inRange code size least greatest kinds
+
+  abbrev kinded : Bool → Bool
+  kinded half = leb 1 kinds && leb kinds (mostKinds half)
+
+  abbrev sized : Bool
+  sized = not (eqb code 1) || leb size 255
+
+  abbrev long : Bool
+  long = leb least greatest && leb greatest 65538
+
+  pub by-kinds : range ≡ (kinded (eqb code 0) && (leb code 3 && (sized && long)))
+  unfolding inRange
+  by-kinds = sym (and-assoc (leb 1 kinds) (leb kinds (mostKinds (eqb code 0))) (leb code 3 && (sized && long)))
+
+  -- a form that is not in range, whatever else is asked
+  pub no-form : leb code 3 ≡ false → (g : Bool) → (range && g) ≡ false
+  no-form e g = rw (by-kinds, e, and-false (kinded (eqb code 0)))
+
+  pub no-size : sized ≡ false → (g : Bool) → (range && g) ≡ false
+  no-size e g = rw (by-kinds, e, and-false (leb code 3), and-false (kinded (eqb code 0)))
+
+  -- one that is: what is left of the ranges, with something more that is asked
+  pub by-form : (half g : Bool) → eqb code 0 ≡ half → code ≤ 3 → sized ≡ true → (kinded half && (long && g)) ≡ (range && g)
+  by-form half g h l s = rw (by-kinds, h, le-leb code 3 l, s) (sym (and-assoc (kinded half) long g))
 
 abbrev pub rangeOf : Numbers → Bool
 rangeOf n = inRange (n .code) (n .size) (n .least) (n .greatest) (n .kinds)
@@ -92,16 +123,31 @@ module _ (table ix : List ℕ) (k : ℕ) (n : Numbers) (e : n ≡ numbersAt tabl
           let f = iei-at table k 0 (omega (arith, its-count)) (lit< tt) ∙ sym (getD-drop (10 * k) table 1 0) in
           single (ieis row) (omega (arith, iei-count table k, here, its-count)) ∙ ap (λ (x : ℕ). x ∷ []) (f ∙ ap (λ (m : Numbers). m .first) (sym said))
 
-      pub one-passes : passes k row ix ≡ (goodIei (eqb (n .code) 0) (n .first) && free ix (n .first))
+      one-passes : passes k row ix ≡ (goodIei (eqb (n .code) 0) (n .first) && free ix (n .first))
       unfolding ieisPass enters
       one-passes = its-ieis ∙ rw (alone, its-count, o, its-code) (and-true _)
 
-      pub one-entered : enterRow k row ix ≡ enter (markOf k) (n .first) ix
+      one-entered : enterRow k row ix ≡ enter (markOf k) (n .first) ix
       unfolding enterAll
       one-entered = rw alone
 
+  -- the same by its numbers alone, and what is entered of one that passes
+  module _ (o : n .count ≡ 1) where
+    abbrev iei-passes : Bool
+    iei-passes = goodIei (eqb (n .code) 0) (n .first) && free ix (n .first)
+
+    pub one-judged : passes k row ix ≡ (rangeOf n && iei-passes)
+    one-judged = by (rangeOf n) refl
+      where
+        by : (b : Bool) → rangeOf n ≡ b → passes k row ix ≡ (b && iei-passes)
+        by true p = one-passes p o
+        by false p = out-of-range p
+
+    pub one-enters : {r : Bool} → r ≡ (rangeOf n && iei-passes) → r ≡ true → enterRow k row ix ≡ enter (markOf k) (n .first) ix
+    one-enters e q = one-entered (both (rangeOf n) iei-passes (sym e ∙ q) .0) o
+
 -- behind the whole rows stands an unfinished one, or one too many
-pub past-whole : (table ix₀ ix : List ℕ) (n : ℕ) → n ≡ min (length table / 10) 128 → n < length (rowsOf table) → Checking (rowsOf table) ix₀ n ix → Told (rowsOf table) ix₀ (some n) ix
+pub past-whole : (table ix₀ ix : List ℕ) (n : ℕ) → n ≡ length table / 10 → n < length (rowsOf table) → Checking (rowsOf table) ix₀ n ix → Told (rowsOf table) ix₀ (some n) ix
 unfolding numbersAt inRange
 past-whole table ix₀ ix n e h c = by (leb 128 n) refl
   where

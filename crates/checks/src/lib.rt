@@ -4,6 +4,7 @@ use indexing::marks::enter_free;
 use indexing::marks::enter_row;
 use indexing::marks::good_iei;
 use indexing::marks::mark_of;
+use rows::columns::Numbers;
 use rows::columns::mandatory_code_at;
 use rows::columns::mandatory_kinds_at;
 use rows::columns::mandatory_least_at;
@@ -15,12 +16,13 @@ use rows::index::NO_PLACE;
 ghost use mathlib.Core.Path.{_≡_};
 ghost use mathlib.Core.Bool.{true, _&&_, _||_, not};
 ghost use mathlib.Core.Option.{none};
-ghost use Prim.Native.Nat.{_+_, _/_, _<_, suc, min};
+ghost use Prim.Native.Nat.{_+_, _<_, suc};
 ghost use lib.ListN.{length, drop};
 ghost use lib.Dec.{eqb, leb};
 ghost use Rattle.definitions.specs.Basic.{pick, isNone, mostKinds};
 ghost use Rattle.definitions.specs.Rows.{rowsOf, rowAt, goodIei, firstBad, index};
 ghost use Rattle.definitions.specs.Mandatory.{mandatoryRowsOf, mandatoryRowAt, goodMandatory, firstBadMandatory};
+ghost use Rattle.rows.specs.Numbers.{numbersAt};
 ghost use Rattle.indexing.specs.Marks.{free, enter, enterRow, indexed};
 ghost use Rattle.checks.specs.Passes.{inRange, passes, badFrom, plainInRange, paired};
 ghost use Rattle.checks.specs.Answers.{checkedAs};
@@ -57,14 +59,31 @@ fn most_kinds(half: bool) -> u32
     255
 }
 
-// The ranges of a row's numbers behind its IEIs.
-fn in_range(code: u32, size: usize, least: usize, greatest: usize, kinds: u32) -> bool
-    ensures { λ r. ⌜ r ≡ inRange code size least greatest kinds ⌝ }
+// A set of kinds: not empty, and at most the greatest.
+fn kinds_fit(kinds: u32, most: u32) -> bool
+    ensures { λ r. ⌜ r ≡ (leb 1 kinds && leb kinds most) ⌝ }
 {
     if kinds < 1 {
         return false;
     }
-    if kinds > most_kinds(code == 0) {
+    kinds <= most
+}
+
+// The least and the greatest whole length.
+fn lengths_fit(least: usize, greatest: usize) -> bool
+    ensures { λ r. ⌜ r ≡ (leb least greatest && leb greatest 65538) ⌝ }
+{
+    if least > greatest {
+        return false;
+    }
+    greatest <= 65_538
+}
+
+// The ranges of a row's numbers behind its IEIs.
+fn in_range(code: u32, size: usize, least: usize, greatest: usize, kinds: u32) -> bool
+    ensures { λ r. ⌜ r ≡ inRange code size least greatest kinds ⌝ }
+{
+    if !kinds_fit(kinds, most_kinds(code == 0)) {
         return false;
     }
     if code > 3 {
@@ -73,10 +92,7 @@ fn in_range(code: u32, size: usize, least: usize, greatest: usize, kinds: u32) -
     if !size_fits(code, size) {
         return false;
     }
-    if least > greatest {
-        return false;
-    }
-    greatest <= 65_538
+    lengths_fit(least, greatest)
 }
 
 // An IEI entered where the row may list it and its entry is free; whether it was. One that the row may not list is not entered.
@@ -89,16 +105,56 @@ fn enter_good(index: &mut [u8; 256], half: bool, iei: u32, mark: u8) -> bool
     enter_free(index, iei, mark)
 }
 
-// A row, its IEIs entered where it passes. Most rows list one, which needs no walk; an unfinished row has no set of kinds.
-fn row_passes(table: &[u32], place: usize, index: &mut [u8; 256]) -> bool
-    ensures { λ r. ⌜ (r ≡ passes place (rowAt (rowsOf (now (table .entry))) place) (now (index .entry))) × (r ≡ true → now (index .exit) ≡ enterRow place (rowAt (rowsOf (now (table .entry))) place) (now (index .entry))) ⌝ }
+// Whether a form has a length field.
+fn has_length(code: u32) -> bool
+    ensures { λ r. ⌜ r ≡ (leb 2 code && leb code 3) ⌝ }
 {
-    let row = numbers_at(table, place);
-    if !in_range(row.code, row.size, row.least, row.greatest, row.kinds) {
+    if code < 2 {
         return false;
     }
-    if row.count == 1 {
-        return enter_good(index, row.code == 0, row.first, mark_of(place));
+    code <= 3
+}
+
+// What is left to ask of a row whose form is in range: its set of kinds, its lengths and its one IEI, which is entered where they pass.
+fn rest_passes(row: Numbers, half: bool, index: &mut [u8; 256], mark: u8) -> bool
+    ensures { λ r. ⌜ (r ≡ ((leb 1 (row .kinds) && leb (row .kinds) (mostKinds half)) && ((leb (row .least) (row .greatest) && leb (row .greatest) 65538) && (goodIei half (row .first) && free (now (index .entry)) (row .first))))) × (r ≡ true → now (index .exit) ≡ enter mark (row .first) (now (index .entry))) ⌝ }
+{
+    if !kinds_fit(row.kinds, most_kinds(half)) {
+        return false;
+    }
+    if !lengths_fit(row.least, row.greatest) {
+        return false;
+    }
+    enter_good(index, half, row.first, mark)
+}
+
+// A row of one IEI, as most are, entered where the row passes. The forms with a length field come first, since most rows have one of them and
+// there is no size to look at.
+fn one_passes(row: Numbers, index: &mut [u8; 256], mark: u8) -> bool
+    ensures { λ r. ⌜ (r ≡ (inRange (row .code) (row .size) (row .least) (row .greatest) (row .kinds) && (goodIei (eqb (row .code) 0) (row .first) && free (now (index .entry)) (row .first)))) × (r ≡ true → now (index .exit) ≡ enter mark (row .first) (now (index .entry))) ⌝ }
+{
+    if has_length(row.code) {
+        return rest_passes(row, false, index, mark);
+    }
+    if row.code == 0 {
+        return rest_passes(row, true, index, mark);
+    }
+    if row.code > 3 {
+        return false;
+    }
+    if row.size > 255 {
+        return false;
+    }
+    rest_passes(row, false, index, mark)
+}
+
+// A row of any number of IEIs, by its numbers, and these entered where it passes. An unfinished row has no set of kinds.
+fn more_pass(table: &[u32], place: usize, row: Numbers, index: &mut [u8; 256]) -> bool
+    requires { ⌜ row ≡ numbersAt (now table) place ⌝ }
+    ensures { λ r. ⌜ (r ≡ passes place (rowAt (rowsOf (now (table .entry))) place) (now (index .entry))) × (r ≡ true → now (index .exit) ≡ enterRow place (rowAt (rowsOf (now (table .entry))) place) (now (index .entry))) ⌝ }
+{
+    if !in_range(row.code, row.size, row.least, row.greatest, row.kinds) {
+        return false;
     }
     if row.count < 1 {
         return false;
@@ -109,29 +165,30 @@ fn row_passes(table: &[u32], place: usize, index: &mut [u8; 256]) -> bool
     enter_row(table, place, index)
 }
 
-// How many rows are looked at one by one: those that the table has whole, up to the most places.
-fn whole_rows(table: &[u32]) -> usize
-    ensures { λ r. ⌜ r ≡ min (length (now (table .entry)) / 10) 128 ⌝ }
-{
-    let n = table.len() / 10;
-    if n > MOST_PLACES {
-        return MOST_PLACES;
-    }
-    n
-}
-
-// The rows one after the other, up to the first bad one; of a table that passes, all IEIs are entered. A row behind the whole ones is
-// unfinished or one too many, so that the loop need not ask for either.
+// The rows one after the other, up to the first bad one; of a table that passes, all IEIs are entered. The loop is over the rows that the
+// table has whole: one behind them is unfinished. It calls for a row's IEIs by itself, since a function between, which is handed the
+// table, would store that for each row.
 fn check_rows(table: &[u32], index: &mut [u8; 256]) -> Checked
     ensures { λ r. ⌜ (checkedAs r ≡ badFrom 0 (now (index .entry)) (rowsOf (now (table .entry)))) × (badFrom 0 (now (index .entry)) (rowsOf (now (table .entry))) ≡ none → now (index .exit) ≡ indexed 0 (now (index .entry)) (rowsOf (now (table .entry)))) ⌝ }
 {
-    let n = whole_rows(table);
+    let n = table.len() / 10;
     let mut k = 0;
     while k < n {
-        if !row_passes(table, k, index) {
+        if k >= MOST_PLACES {
             return Checked::BadRow(k);
         }
-        k += 1;
+        let row = numbers_at(table, k);
+        if row.count == 1 {
+            if !one_passes(row, index, mark_of(k)) {
+                return Checked::BadRow(k);
+            }
+            k += 1;
+        } else {
+            if !more_pass(table, k, row, index) {
+                return Checked::BadRow(k);
+            }
+            k += 1;
+        }
     }
     if places(table) > n {
         return Checked::BadRow(n);
