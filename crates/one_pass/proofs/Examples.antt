@@ -11,7 +11,8 @@ use Rattle.definitions.specs.Values.{valueIn, present, sourceOf, octetsAt, good
 use Rattle.definitions.specs.Writing.{encoded}
 use Rattle.rows.specs.Numbers.{numbersAt}
 use Rattle.putting.specs.Puts.{addable, writable}
-use Rattle.one_pass.specs.Passes.{lentOf, joined, judged, pieceBy, ranged, passed, leftBy, passedBy}
+use Rattle.placing.specs.Pieces.{lentOf, joined, judged, pieceBy, ranged}
+use Rattle.one_pass.specs.Passes.{passed, leftBy, passedBy}
 
 pub passes-hold : passedBy
     (lentOf tableP (1 ∷ 0 ∷ 1 ∷ 0xc0 ∷ 1 ∷ 4 ∷ 1 ∷ 0x10 ∷ 0 ∷ 0 ∷ 0 ∷ 0 ∷ 2 ∷ 0 ∷ 1 ∷ 0x2f ∷ 0 ∷ 0 ∷ 0 ∷ 0 ∷ []) (0xc1 ∷ 0x90 ∷ 0x10 ∷ 0x01 ∷ 0xaa ∷ []) (0x02 ∷ []))

@@ -1,6 +1,4 @@
 -- Laws that the proofs of this crate cite, and what the pass is to writing.
-pub mod Pieces
-pub mod Judging
 pub mod Turns
 pub mod Outputs
 pub mod Written

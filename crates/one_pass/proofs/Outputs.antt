@@ -1,54 +1,21 @@
--- What was found in an array, copied out: it is in the output where both hold it, and else the output is as it was.
--- The array begins with all that was put, so its first octets are that.
+-- Which messages the pass looks at, and what it wrote of one.
+-- Without logs there are the places alone.
 use Prim.Native.Nat.{ℕ, _+_, _-_, _≤_, _<_, min}
 use native.Mathlib.Omega.{arith}
-use mathlib.Core.Path.{_≡_, refl, ap, sym, _∙_}
+use mathlib.Core.Path.{_≡_, refl, ap, sym}
 use mathlib.Core.List.{List, [], _∷_, append-nil}
-use mathlib.Core.Bool.{Bool, true, false, _&&_}
+use mathlib.Core.Bool.{Bool, true, false}
 use mathlib.Core.Option.{Option, none, some}
-use borrow.Author.Tests.{leb-true, leb-false, le-leb, le-ltb, lt-ltb}
-use lib.ListN.{length, take}
-use lib.Seq.{take-at}
+use borrow.Author.Tests.{leb-true, le-ltb, lt-ltb}
+use lib.ListN.{length}
 use lib.Dec.{leb, ltb}
-use Rattle.definitions.specs.Basic.{pick, concat, over, overAt}
+use Rattle.definitions.specs.Basic.{pick, concat, over}
 use Rattle.definitions.specs.Rows.{rowsOf}
 use Rattle.definitions.specs.Logs.{orderList, orderListF, keptList, keptListF, orEmpty}
-use Rattle.one_pass.specs.Passes.{Lent, joined, ranged, passed, leftBy, passedBy, heldTo, PutBy, CopiedBy, WroteBy, capacity, shortBy}
-use Rattle.one_pass.specs.declared.Passed.{Passed}
-use Rattle.one_pass.proofs.Pieces.{held, held-long, none-not, long-not}
-
-module _ (room : ℕ) (piece : Option (List ℕ)) (zeros found before after : List ℕ) (z : length zeros ≡ room) where
-  -- what a piece of too many octets is held to
-  too-many : {s : List ℕ} → piece ≡ some s → min room (length before) < length s → Passed.Not ≡ heldTo (min room (length before)) 0 piece
-  too-many e h = sym (long-not (min room (length before)) 0 e (omega arith))
-
-  not-put : (o : Option (List ℕ)) → piece ≡ o → Passed.Not ≡ heldTo room 0 o → Passed.Not ≡ heldTo (min room (length before)) 0 piece
-  unfolding heldTo
-  not-put none e n = sym (none-not (min room (length before)) 0 e)
-  not-put (some s) e n = by (leb (0 + length s) room) refl n
-    where
-      by : (b : Bool) → leb (0 + length s) room ≡ b → Passed.Not ≡ pick b (Passed.To (0 + length s)) Passed.Not → Passed.Not ≡ heldTo (min room (length before)) 0 piece
-      by true q f = let y : _≡_ {A = ℕ} 0 1 = cc in absurd (omega arith)
-      by false q f = too-many e (omega (arith, leb-false (0 + length s) room q))
-
-  not-copied : (p : Passed) → PutBy piece 0 zeros p found → ((n : ℕ) → p ≡ Passed.To n → min (length found) (length before) < n) → Passed.Not ≡ heldTo (min room (length before)) 0 piece
-  not-copied (Passed.To n) f g = let h = held f in too-many (h .piece-is) (omega (arith, g n refl, h .behind, held-long f))
-  not-copied Passed.Not f g = not-put piece refl (rw z at (f .answers))
-
-  pub wrote : (p r : Passed) → PutBy piece 0 zeros p found → CopiedBy p found before r after → WroteBy room piece before r after
-  unfolding heldTo orEmpty over overAt
-  wrote p (Passed.To n) f c =
-      let h = held (rw (c .found-at) at f) in
-      let s : List ℕ = h .octets in
-      let front : take n found ≡ s = ap (take n) (h .is) ∙ take-at s _ n (omega (arith, h .behind)) in
-      record {
-        answers = rw (h .piece-is, le-leb (0 + length s) (min room (length before)) (omega (arith, h .behind, h .room, c .room))) (ap Passed.To (h .behind));
-        done = λ m e. rw (h .piece-is) (c .is ∙ ap (λ (x : List ℕ). over x before) front);
-        not-done = λ e. let y : _≡_ {A = ℕ} 0 1 = cc in absurd (omega arith);
-      }
-  wrote p Passed.Not f c = record { answers = not-copied p f (c .1); done = λ m e. let y : _≡_ {A = ℕ} 0 1 = cc in absurd (omega arith); not-done = λ e. c .0 }
-
--- ---- which array, and of which message
+use Rattle.placing.specs.Pieces.{Lent, joined, ranged, heldTo, WroteBy, capacity}
+use Rattle.one_pass.specs.Passes.{passed, leftBy, passedBy, shortBy}
+use Rattle.placing.specs.declared.Passed.{Passed}
+use Rattle.placing.proofs.Pieces.{none-not}
 
 joined-nothing : (a : Option (List ℕ)) → joined a (some []) ≡ a
 unfolding joined
@@ -61,15 +28,6 @@ unfolding shortBy passedBy leftBy passed orderList orderListF keptList keptListF
 unlogged m ix =
     let z : length (rowsOf (m .table)) - 0 ≡ length (rowsOf (m .table)) = omega arith in
     rw z (sym (joined-nothing (ranged m 0 (length (rowsOf (m .table))))))
-
--- the shorter array, and the longer
-pub of-few : (n k : ℕ) → (leb n 16 && leb k 64) ≡ true → capacity n k ≡ 128
-unfolding capacity
-of-few n k e = rw e
-
-pub of-many : (n k : ℕ) → (leb n 16 && leb k 64) ≡ false → capacity n k ≡ 512
-unfolding capacity
-of-many n k e = rw e
 
 pub without-logs : (m : Lent) (ix order kept : List ℕ) → length order ≡ 0 → length kept ≡ 0 → {before after : List ℕ} {r : Passed}
     → WroteBy (capacity (length (rowsOf (m .table))) 0) (ranged m 0 (length (rowsOf (m .table)))) before r after

@@ -14,23 +14,12 @@ use Rattle.definitions.specs.Basic.{pick, concat}
 use Rattle.definitions.specs.Rows.{rowsOf, noPlace, placeIn}
 use Rattle.definitions.specs.Logs.{Placed, knownIei, notKnown, ignored, put, keptList, orderList}
 use Rattle.definitions.proofs.Logs.{kept-nil}
-use Rattle.rows.specs.Numbers.{numbersAt}
-use Rattle.one_pass.specs.Passes.{Lent, joined, pieceBy, ranged, concatBy, passed, leftBy, passedBy, heldTo, PutBy, Leads, KeptNot, malformed, too-long, KeptBy, over-all, next-one, NextBy, KnownOn, KnownBy, EntryOn, EntryBy, Passing}
-use Rattle.one_pass.specs.declared.Passed.{Passed}
+use Rattle.placing.specs.Pieces.{Lent, joined, pieceBy, ranged, heldTo, PutBy, Leads}
+use Rattle.one_pass.specs.Passes.{concatBy, passed, leftBy, passedBy, KeptNot, malformed, too-long, KeptBy, over-all, next-one, NextBy, KnownOn, KnownBy, EntryOn, EntryBy, Passing}
+use Rattle.placing.specs.declared.Passed.{Passed}
 use Rattle.one_pass.specs.declared.Went.{Went}
 use Rattle.one_pass.specs.declared.Pen.{Pen}
-use Rattle.one_pass.proofs.Pieces.{held, held-long, put-not, none-not, long-not, joined-none, put-then, put-stop, leads-begun, leads-on, leads-not, leads-as}
-
--- a place more
-pub ranged-next : (m : Lent) (k to : ℕ) → k < to → ranged m k (to - k) ≡ joined (pieceBy m k (numbersAt (m .table) k .first)) (ranged m (k + 1) (to - (k + 1)))
-unfolding ranged
-ranged-next m k to h =
-    let z : to - k ≡ suc (to - (k + 1)) = omega arith in
-    rw (z, add-one)
-
-pub ranged-over : (m : Lent) (k to : ℕ) → to ≤ k → ranged m k (to - k) ≡ some []
-unfolding ranged
-ranged-over m k to h = let z : to - k ≡ 0 = omega arith in rw z
+use Rattle.placing.proofs.Pieces.{held, held-long, put-not, none-not, long-not, joined-none, put-then, put-stop, leads-begun, leads-on, leads-not, leads-as}
 
 -- ---- what is left behind an entry
 

@@ -22,7 +22,8 @@ use Rattle.rows.specs.Numbers.{numbersAt}
 use Rattle.rows.proofs.WholeRows.{whole-rows}
 use Rattle.values.specs.Rows.{sourcesOf}
 use Rattle.putting.specs.Puts.{addable, writable}
-use Rattle.one_pass.specs.Passes.{Lent, lentOf, joined, judged, pieceBy, ranged, passed, leftBy, passedBy}
+use Rattle.placing.specs.Pieces.{Lent, lentOf, joined, judged, pieceBy, ranged}
+use Rattle.one_pass.specs.Passes.{passed, leftBy, passedBy}
 
 -- what writing makes of a message for which the pass gives octets
 pub record Wholly (table rows received set order kept s : List ℕ) : Type 0 where

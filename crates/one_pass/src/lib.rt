@@ -9,6 +9,11 @@ use order::Front;
 use order::Placed;
 use order::entry_len;
 use order::front_at;
+use placing::Passed;
+use placing::copy_out;
+use placing::is_few;
+use placing::put_between;
+use plain_writing::write_plain;
 use putting::put_ie;
 use rows::columns::form_of;
 use rows::columns::numbers_at;
@@ -18,25 +23,16 @@ use rows::index::place_of;
 use values::row::is_good;
 use values::row::row_at;
 use values::row::value_octets;
-ghost use mathlib.Core.Path.{_≡_};
 ghost use Prim.Native.Nat.{_-_, _≤_, _<_};
-ghost use mathlib.Core.Bool.{_&&_};
 ghost use lib.ListN.{length, drop};
-ghost use lib.Dec.{leb};
 ghost use Rattle.definitions.specs.Rows.{rowsOf};
 ghost use Rattle.definitions.specs.Logs.{keptList};
-ghost use Rattle.rows.specs.Numbers.{numbersAt};
 ghost use Rattle.order.specs.Order.{placedAs};
-ghost use Rattle.one_pass.specs.Passes.{lentOf, pieceBy, ranged, concatBy, passedBy, shortBy, capacity, PutBy, KeptBy, NextBy, KnownBy, EntryBy, EntriesBy, CopiedBy, WroteBy};
+ghost use Rattle.placing.specs.Pieces.{lentOf, pieceBy, ranged, PutBy, WroteBy, capacity};
+ghost use Rattle.one_pass.specs.Passes.{concatBy, passedBy, shortBy, KeptBy, NextBy, KnownBy, EntryBy, EntriesBy};
 
 // The most octets of a kept log that is looked at.
 const MOST_SHORT: usize = 512;
-
-// The position behind what was written; or not written.
-pub enum Passed {
-    To(usize),
-    Not,
-}
 
 // Where a pass is: the position in the array, the position in the kept log, and the place below which every place was looked at.
 pub struct Pen {
@@ -50,49 +46,8 @@ pub enum Went {
     Not,
 }
 
-// The element of a place under its first IEI, if the place is present.
-fn put_first<'a>(
-    table: &[u32],
-    rows: &[u32],
-    received: &'a [u8],
-    set: &'a [u8],
-    place: usize,
-    out: &mut [u8],
-    at: usize,
-) -> Passed
-    requires { ⌜ at ≤ length (now out) ⌝ }
-    ensures { λ r. ⌜ PutBy (pieceBy (lentOf (now (table .entry)) (now (rows .entry)) (now (received .entry)) (now (set .entry))) place (numbersAt (now (table .entry)) place .first)) at (now (out .entry)) r (now (out .exit)) ⌝ }
-{
-    let row = row_at(rows, place);
-    if !is_good(row, received, set) {
-        return Passed::Not;
-    }
-    if row.source == 0 {
-        return Passed::To(at);
-    }
-    let n = numbers_at(table, place);
-    if is_unlike(row, n.first) {
-        return Passed::Not;
-    }
-    if n.first > 255 {
-        return Passed::Not;
-    }
-    let value = value_octets(received, set, row);
-    let took = put_ie(
-        &mut out[at..],
-        form_of(n.code, n.size),
-        row.source,
-        n.first as u8,
-        value,
-    );
-    if took == 0 {
-        return Passed::Not;
-    }
-    Passed::To(at + took)
-}
-
-// The same under an IEI of the order log. It does by itself what `put_first` does: where both call one function, that is put into
-// neither, and a message without logs takes a sixth more or worse.
+// The element of a place under an IEI of the order log, if the place is present. It does by itself what `put_first` of placing does under the
+// first one: where both call one function, that is put into neither, and a message without logs takes a sixth more or worse.
 fn put_logged<'a>(
     table: &[u32],
     rows: &[u32],
@@ -131,37 +86,7 @@ fn put_logged<'a>(
     Passed::To(at + took)
 }
 
-// The places from one on, up to another, each under its first IEI.
-fn put_between<'a>(
-    table: &[u32],
-    rows: &[u32],
-    received: &'a [u8],
-    set: &'a [u8],
-    from: usize,
-    to: usize,
-    out: &mut [u8],
-    start: usize,
-) -> Passed
-    requires { ⌜ start ≤ length (now out) ⌝ }
-    ensures { λ r. ⌜ PutBy (ranged (lentOf (now (table .entry)) (now (rows .entry)) (now (received .entry)) (now (set .entry))) from (to - from)) start (now (out .entry)) r (now (out .exit)) ⌝ }
-{
-    let mut at = start;
-    let mut k = from;
-    while k < to {
-        match put_first(table, rows, received, set, k, out, at) {
-            Passed::To(next) => {
-                at = next;
-                k += 1;
-            }
-            Passed::Not => {
-                return Passed::Not;
-            }
-        }
-    }
-    Passed::To(at)
-}
-
-// The same where there may be none: most entries follow the one of the place before.
+// The places from one on, up to another, each under its first IEI, where there may be none: most entries follow the one of the place before.
 fn put_lower<'a>(
     table: &[u32],
     rows: &[u32],
@@ -376,54 +301,7 @@ fn pass<'a>(
     }
 }
 
-// What was found, into the output, if it has room.
-fn copy_out(output: &mut [u8], found: &[u8], passed: Passed) -> Passed
-    ensures { λ r. ⌜ CopiedBy passed (now (found .entry)) (now (output .entry)) r (now (output .exit)) ⌝ }
-{
-    match passed {
-        Passed::To(n) => {
-            if found.len() < n {
-                return Passed::Not;
-            }
-            if output.len() < n {
-                return Passed::Not;
-            }
-            put_slice(output, &found[..n]);
-            Passed::To(n)
-        }
-        Passed::Not => Passed::Not,
-    }
-}
-
 // ---- the array is one of two lengths, since it is cleared at each call
-
-fn plain_few<'a>(
-    table: &[u32],
-    rows: &[u32],
-    received: &'a [u8],
-    set: &'a [u8],
-    output: &mut [u8],
-) -> Passed
-    ensures { λ r. ⌜ WroteBy 128 (ranged (lentOf (now (table .entry)) (now (rows .entry)) (now (received .entry)) (now (set .entry))) 0 (length (rowsOf (now (table .entry))))) (now (output .entry)) r (now (output .exit)) ⌝ }
-{
-    let mut found = [0u8; 128];
-    let passed = put_between(table, rows, received, set, 0, places(table), &mut found, 0);
-    copy_out(output, &found, passed)
-}
-
-fn plain_many<'a>(
-    table: &[u32],
-    rows: &[u32],
-    received: &'a [u8],
-    set: &'a [u8],
-    output: &mut [u8],
-) -> Passed
-    ensures { λ r. ⌜ WroteBy 512 (ranged (lentOf (now (table .entry)) (now (rows .entry)) (now (received .entry)) (now (set .entry))) 0 (length (rowsOf (now (table .entry))))) (now (output .entry)) r (now (output .exit)) ⌝ }
-{
-    let mut found = [0u8; 512];
-    let passed = put_between(table, rows, received, set, 0, places(table), &mut found, 0);
-    copy_out(output, &found, passed)
-}
 
 fn pass_few<'a>(
     table: &[u32],
@@ -457,32 +335,6 @@ fn pass_many<'a>(
     let mut found = [0u8; 512];
     let passed = pass(table, index, rows, received, set, kept, order, &mut found);
     copy_out(output, &found, passed)
-}
-
-// Whether the shorter array is taken, by the places of the table and the octets of the kept log.
-fn is_few(places: usize, kept: usize) -> bool
-    ensures { λ r. ⌜ r ≡ (leb places 16 && leb kept 64) ⌝ }
-{
-    if places > 16 {
-        return false;
-    }
-    kept <= 64
-}
-
-// A message whose logs are both empty, as most are.
-fn write_plain<'a>(
-    table: &[u32],
-    rows: &[u32],
-    received: &'a [u8],
-    set: &'a [u8],
-    output: &mut [u8],
-) -> Passed
-    ensures { λ r. ⌜ WroteBy (capacity (length (rowsOf (now (table .entry)))) 0) (ranged (lentOf (now (table .entry)) (now (rows .entry)) (now (received .entry)) (now (set .entry))) 0 (length (rowsOf (now (table .entry))))) (now (output .entry)) r (now (output .exit)) ⌝ }
-{
-    if is_few(places(table), 0) {
-        return plain_few(table, rows, received, set, output);
-    }
-    plain_many(table, rows, received, set, output)
 }
 
 // A message into the output, all of it or nothing.

@@ -31,18 +31,18 @@ abbrev pub Others : Type 0 → List ℕ → ℕ → Type 0
 Others B [] key = B
 Others B (k ∷ ks) key = Others B ks key × (key ≡ k → ⊥)
 
-others : (B : Type 0) (ks : List ℕ) (key : ℕ) → Others B ks key → among key ks ≡ false
+pub others : (B : Type 0) (ks : List ℕ) (key : ℕ) → Others B ks key → among key ks ≡ false
 unfolding among
 others B [] key h = refl
 others B (k ∷ ks) key h = rw (ne-eqb key k (h .1), others B ks key (h .0))
 
 -- ---- the test
 
-below : ℕ → (ℕ → Bool) → Bool
+unfoldable pub below : ℕ → (ℕ → Bool) → Bool
 below zero f = true
 below (suc n) f = f n && below n f
 
-below-at : (n : ℕ) (f : ℕ → Bool) → below n f ≡ true → (i : ℕ) → i < n → f i ≡ true
+pub below-at : (n : ℕ) (f : ℕ → Bool) → below n f ≡ true → (i : ℕ) → i < n → f i ≡ true
 unfolding below
 below-at zero f h i l = absurd (omega arith)
 below-at (suc n) f h i l = let b = both (f n) (below n f) h in by (b .0) (below-at n f (b .1) i) (eqb i n) refl

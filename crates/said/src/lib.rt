@@ -1,5 +1,7 @@
 // What a numbered table says of an IEI that is a row's first, without the table laid out in memory: a `match` of numbers is a choice in
 // the program itself, while a constant array is stored on the stack at each call.
+pub mod shape;
+
 ghost use mathlib.Core.Path.{_≡_};
 ghost use Prim.Native.Nat.{_/_, _%_};
 ghost use lib.ListN.{length};

@@ -169,7 +169,7 @@ module _ (table entries rows received set kept order output : List ℕ) (l : Lim
 -- ---- of octets with their used counts
 
 -- a count that is not too long
-not-long : (most : ℕ) (s : List ℕ) (n : ℕ) → tooLong most (usedOf s n) ≡ false → (n ≤ length s) × (n ≤ most)
+pub not-long : (most : ℕ) (s : List ℕ) (n : ℕ) → tooLong most (usedOf s n) ≡ false → (n ≤ length s) × (n ≤ most)
 unfolding tooLong
 not-long most s n e = by (ltb (length s) n) (ltb most n) refl refl e
   where

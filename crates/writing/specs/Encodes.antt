@@ -2,10 +2,16 @@
 use Prim.Native.Nat.{ℕ, _*_, _≤_}
 use mathlib.Core.Path.{_≡_}
 use mathlib.Core.List.{List, [], _∷_}
+use mathlib.Core.Bool.{false}
+use mathlib.Core.Option.{some}
 use lib.ListN.{length}
-use Rattle.definitions.specs.Basic.{Answer, answer, Used}
+use Rattle.definitions.specs.Basic.{Answer, answer, Used, tooLong, mostOctets}
 use Rattle.definitions.specs.Rows.{rowsOf}
+use Rattle.definitions.specs.Tables.{tableOf}
 use Rattle.definitions.specs.Writing.{Wrote}
+use Rattle.kept.specs.Kept.{usedOf}
+use Rattle.real.specs.Real.{realOf}
+use Rattle.placing.specs.declared.Passed.{Passed}
 use Rattle.writing.specs.Sizes.{Sized}
 use Rattle.writing.specs.declared.encode.Which.{Which}
 use Rattle.writing.specs.declared.encode.Encoded.{Encoded}
@@ -40,3 +46,17 @@ pub record Limited (table entries rows received set kept order : List ℕ) : Typ
   pub kept-short : length kept ≤ 131070
   pub order-short : length order ≤ 131070
   pub rows-there : 4 * length (rowsOf table) ≤ length rows
+
+-- a message without logs, within all limits and with a row for each place, by the number of a table
+pub record Plain (number : ℕ) (rows received set : List ℕ) (set-used kept-used order-used : ℕ) : Type 0 where
+  pub table : tableOf number ≡ some (realOf number)
+  pub received-short : length received ≤ 65535
+  pub set-short : tooLong mostOctets (usedOf set set-used) ≡ false
+  pub no-kept : kept-used ≡ 0
+  pub no-order : order-used ≡ 0
+  pub rows-there : 4 * length (rowsOf (realOf number)) ≤ length rows
+
+-- a pass that is a writing where it reaches the end, and else writes nothing
+pub record Plainly (w : Wrote) (r : Passed) (before after : List ℕ) : Type 0 where
+  pub done : (n : ℕ) → r ≡ Passed.To n → Encodes w (Encoded.Done n) after
+  pub not-done : r ≡ Passed.Not → after ≡ before

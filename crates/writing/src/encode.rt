@@ -12,8 +12,9 @@ use kept::too_long;
 use logs::Kept;
 use logs::kept_len;
 use octets::MOST_OCTETS;
-use one_pass::Passed;
 use one_pass::write_pass;
+use placing::Passed;
+use plain_writing::write_plain_by;
 use real::index_p;
 use real::index_pdu_session_establishment_accept;
 use real::index_pdu_session_establishment_request;
@@ -29,8 +30,12 @@ use real::registration_request;
 use real::service_request;
 use real::table_p;
 use rows::columns::places;
+use said::places_of;
 ghost use mathlib.Core.Path.{_≡_};
+ghost use mathlib.Core.List.{List};
+ghost use mathlib.Core.Bool.{true};
 ghost use mathlib.Core.Option.{none};
+ghost use Prim.Native.Nat.{ℕ};
 ghost use Rattle.definitions.specs.Rows.{rowsOf, firstBad};
 ghost use Rattle.definitions.specs.Writing.{writing, writingBy};
 ghost use Rattle.kept.specs.Kept.{usedOf};
@@ -40,7 +45,7 @@ ghost use Rattle.logs.specs.declared.Kept.{Kept};
 ghost use Rattle.real.specs.Real.{realOf};
 ghost use Rattle.writing.specs.Walks.{IndexIs, filledOf};
 ghost use Rattle.writing.specs.Sizes.{LoggedBy};
-ghost use Rattle.writing.specs.Encodes.{Encodes, usedUp, Limited};
+ghost use Rattle.writing.specs.Encodes.{Encodes, usedUp, Limited, Plain, Plainly};
 
 // What is malformed.
 pub enum Which {
@@ -451,8 +456,8 @@ fn encode_pdu_session_establishment_accept<'a>(
     )
 }
 
-// By table number.
-pub fn encode_optional_ies_by<'a>(
+// By table number, with the table and its index laid out on the stack.
+fn encode_numbered<'a>(
     number: u32,
     rows: &[u32],
     received: &'a [u8],
@@ -545,5 +550,96 @@ pub fn encode_optional_ies_by<'a>(
             output,
         ),
         _ => Encoded::NoTable,
+    }
+}
+
+// Whether a message has no logs and is within all limits, by a number that names a table.
+fn is_plain(
+    number: u32,
+    rows: &[u32],
+    received: &[u8],
+    set: &[u8],
+    set_used: usize,
+    kept_used: usize,
+    order_used: usize,
+) -> bool
+    ensures { λ r. ⌜ (r ≡ true → Plain number (now (rows .entry)) (now (received .entry)) (now (set .entry)) «set_used» «kept_used» «order_used») ⌝ }
+{
+    if kept_used > 0 {
+        return false;
+    }
+    if order_used > 0 {
+        return false;
+    }
+    if received.len() > MOST_OCTETS {
+        return false;
+    }
+    if too_long(set, set_used, MOST_OCTETS) {
+        return false;
+    }
+    let n = places_of(number);
+    if n == 0 {
+        return false;
+    }
+    4 * n <= rows.len()
+}
+
+// Such a message in one pass, if that reaches the end, without the table laid out; else nothing is written.
+fn encode_plain<'a>(
+    number: u32,
+    rows: &[u32],
+    received: &'a [u8],
+    set: &'a [u8],
+    set_used: usize,
+    kept_used: usize,
+    order_used: usize,
+    output: &mut [u8],
+) -> Passed
+    ensures { λ r. ⌜ ((kept order : List ℕ) → Plainly (writingBy number (now (rows .entry)) (now (received .entry)) (usedOf (now (set .entry)) «set_used») (usedOf order «order_used») (usedOf kept «kept_used») (now (output .entry))) r (now (output .entry)) (now (output .exit))) ⌝ }
+{
+    if is_plain(number, rows, received, set, set_used, kept_used, order_used) {
+        return write_plain_by(number, rows, received, &set[..set_used], output);
+    }
+    Passed::Not
+}
+
+// By table number.
+pub fn encode_optional_ies_by<'a>(
+    number: u32,
+    rows: &[u32],
+    received: &'a [u8],
+    set: &'a [u8],
+    set_used: usize,
+    kept: &[u8],
+    kept_used: usize,
+    order: &[u8],
+    order_used: usize,
+    output: &mut [u8],
+) -> Encoded
+    ensures { λ r. ⌜ Encodes (writingBy number (now (rows .entry)) (now (received .entry)) (usedOf (now (set .entry)) «set_used») (usedOf (now (order .entry)) «order_used») (usedOf (now (kept .entry)) «kept_used») (now (output .entry))) r (now (output .exit)) ⌝ }
+{
+    match encode_plain(
+        number,
+        rows,
+        received,
+        set,
+        set_used,
+        kept_used,
+        order_used,
+        output,
+    ) {
+        Passed::To(n) => Encoded::Done(n),
+        Passed::Not => encode_numbered(
+            number,
+            rows,
+            received,
+            set,
+            set_used,
+            kept,
+            kept_used,
+            order,
+            order_used,
+            output,
+        ),
     }
 }

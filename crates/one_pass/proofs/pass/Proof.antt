@@ -2,8 +2,8 @@
 -- What is left behind each leads to the whole message.
 use Prim.Native.Nat.{_-_}
 use native.Mathlib.Omega.{arith}
-use Rattle.one_pass.specs.Passes.{lentOf}
-use Rattle.one_pass.proofs.Pieces.{held-inside, put-not}
+use Rattle.placing.specs.Pieces.{lentOf}
+use Rattle.placing.proofs.Pieces.{held-inside, put-not}
 use Rattle.one_pass.proofs.Turns.{places-not, places-on}
 use borrow.Author.Needs.{needs}
 use Rattle.one_pass.proofs.pass.Statement.{statement}
@@ -25,7 +25,7 @@ enum-known-at : tie.Need-enum-known-at
 enum-known-at c = search needs
 
 pass-left-requires : tie.Need-pass-left-requires
-pass-left-requires c κs = (held-inside (rw (c .before .before .at .given .1) at (c .before .before .before .before .before .before .put-between .ensures)), (rw (c .before .before .before .before .before .before .before .before .before .before .pen .given .1) at (c .before .before .before .before .before .before .before .before .before .before .before .before .before .before .pass-entries .ensures)) .inside)
+pass-left-requires c κs = (held-inside (rw (c .before .before .at .given .1) at (c .before .before .before .before .before .before .put-between .ensures .0)), (rw (c .before .before .before .before .before .before .before .before .before .before .pen .given .1) at (c .before .before .before .before .before .before .before .before .before .before .before .before .before .before .pass-entries .ensures)) .inside)
 
 enum-told : tie.Need-enum-told
 enum-told c = search needs
@@ -39,7 +39,7 @@ same-length c = search needs
 returns : tie.Need-returns
 returns c =
     let a = c .before .before .before .before .before .before .before .before .before .before .before .before .before .before .before .before .before .before .before .before .before .before .before .before .before .before .before .args in
-    let b = rw (c .before .before .before .before .before .at .given .1, c .before .before .before .before .before .before .before .before .before .before .before .places .ensures) at (c .before .before .before .before .before .before .before .before .before .put-between .ensures) in
+    let b = rw (c .before .before .before .before .before .at .given .1, c .before .before .before .before .before .before .before .before .before .before .before .places .ensures) at (c .before .before .before .before .before .before .before .before .before .put-between .ensures .0) in
     places-on (lentOf (a .table .now) (a .rows .now) (a .received .now) (a .set .now)) (a .index .now) (a .order .now) (a .kept .now) (a .out .now) (rw (c .before .before .before .before .before .before .before .before .before .before .before .before .before .pen .given .1) at (c .before .before .before .before .before .before .before .before .before .before .before .before .before .before .before .before .before .pass-entries .ensures)) b (c .before .before .pass-left .ensures)
 
 same-length-2 : tie.Need-same-length-2
@@ -48,7 +48,7 @@ same-length-2 c = search needs
 returns-2 : tie.Need-returns-2
 returns-2 c =
     let a = c .before .before .before .before .before .before .before .before .before .before .before .before .before .before .before .before .before .before .before .before .before .before .args in
-    let b = rw (c .enum-told .given .1, c .before .before .before .before .before .before .places .ensures) at (c .before .before .before .before .put-between .ensures) in
+    let b = rw (c .enum-told .given .1, c .before .before .before .before .before .before .places .ensures) at (c .before .before .before .before .put-between .ensures .0) in
     places-not (lentOf (a .table .now) (a .rows .now) (a .received .now) (a .set .now)) (a .index .now) (a .order .now) (a .kept .now) (a .out .now) (rw (c .before .before .before .before .before .before .before .before .pen .given .1) at (c .before .before .before .before .before .before .before .before .before .before .before .before .pass-entries .ensures)) b
 
 same-length-3 : tie.Need-same-length-3

@@ -10,7 +10,8 @@ use Rattle.definitions.proofs.Orders.{orderFront, order-nil}
 use Rattle.definitions.proofs.Lists.{to-end}
 use Rattle.definitions.proofs.LogSteps.{OrderEntry, order-split, order-stop}
 use Rattle.order.specs.Order.{placedAs, frontAs}
-use Rattle.one_pass.specs.Passes.{lentOf, Passing}
+use Rattle.placing.specs.Pieces.{lentOf}
+use Rattle.one_pass.specs.Passes.{Passing}
 use Rattle.one_pass.proofs.Turns.{passing-begun, passing-on, passing-not, passing-stopped, passing-as}
 use borrow.Author.Needs.{needs}
 use Rattle.one_pass.proofs.pass_entries.Statement.{statement}

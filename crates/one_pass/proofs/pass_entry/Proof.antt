@@ -2,7 +2,7 @@
 -- A known one takes no kept element, any other the next.
 use Rattle.definitions.specs.Logs.{notKnown, ignored}
 use Rattle.order.specs.Order.{reasonAs}
-use Rattle.one_pass.specs.Passes.{lentOf}
+use Rattle.placing.specs.Pieces.{lentOf}
 use Rattle.one_pass.proofs.Turns.{known-by, aside-turn}
 use borrow.Author.Needs.{needs}
 use Rattle.one_pass.proofs.pass_entry.Statement.{statement}

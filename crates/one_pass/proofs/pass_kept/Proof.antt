@@ -12,7 +12,7 @@ use Rattle.definitions.proofs.Lists.{to-end}
 use Rattle.definitions.proofs.LogSteps.{KeptEntry, kept-split, kept-stop}
 use Rattle.kept.proofs.Counts.{count-is, count-not}
 use Rattle.one_pass.specs.Passes.{malformed, too-long}
-use Rattle.one_pass.proofs.Pieces.{put-octets}
+use Rattle.placing.proofs.Pieces.{put-octets}
 use borrow.Author.Needs.{needs}
 use Rattle.one_pass.proofs.pass_kept.Statement.{statement}
 use Rattle.one_pass.proofs.pass_kept.Tie as tie

@@ -5,8 +5,8 @@ use lib.ListN.{getD}
 use native.Mathlib.Omega.{arith}
 use mathlib.Core.Path.{ap, sym, _∙_}
 use Rattle.rows.specs.Answers.{placeAs}
-use Rattle.one_pass.specs.Passes.{lentOf}
-use Rattle.one_pass.proofs.Pieces.{held-inside}
+use Rattle.placing.specs.Pieces.{lentOf}
+use Rattle.placing.proofs.Pieces.{held-inside}
 use Rattle.one_pass.proofs.Turns.{place-below, nowhere-turn, lower-not, between-not, known-not, known-turn}
 use borrow.Author.Needs.{needs}
 use Rattle.one_pass.proofs.pass_known.Statement.{statement}

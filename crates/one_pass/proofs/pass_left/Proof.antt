@@ -6,7 +6,7 @@ use mathlib.Core.Path.{ap, _∙_}
 use lib.ListN.{length, drop}
 use Rattle.definitions.specs.Logs.{keptList}
 use Rattle.one_pass.specs.Passes.{concatBy}
-use Rattle.one_pass.proofs.Pieces.{Going, put-not, going-begun, going-as, going-on, going-end}
+use Rattle.placing.proofs.Pieces.{Going, put-not, going-begun, going-as, going-on, going-end}
 use Rattle.one_pass.proofs.Turns.{concat-next, concat-over, kept-not}
 use borrow.Author.Needs.{needs}
 use Rattle.one_pass.proofs.pass_left.Statement.{statement}

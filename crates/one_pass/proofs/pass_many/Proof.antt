@@ -1,7 +1,7 @@
 -- `pass_many` copies out what the pass put into 512 zeros.
 -- What it put stands in the output as it stood in the array.
 use mathlib.Core.Path.{refl}
-use Rattle.one_pass.proofs.Outputs.{wrote}
+use Rattle.placing.proofs.Copies.{wrote}
 use borrow.Author.Needs.{needs}
 use Rattle.one_pass.proofs.pass_many.Statement.{statement}
 use Rattle.one_pass.proofs.pass_many.Tie as tie

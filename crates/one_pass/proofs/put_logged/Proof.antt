@@ -3,7 +3,8 @@
 use native.Mathlib.Omega.{arith}
 use mathlib.Core.Path.{sym, _∙_}
 use borrow.Author.Tests.{not-true, not-false}
-use Rattle.one_pass.proofs.Judging.{piece-bad, piece-absent, piece-unlike, piece-zero, piece-more, piece-inside}
+use Rattle.placing.specs.Pieces.{lentOf, pieceBy}
+use Rattle.placing.proofs.Judging.{Took, piece-bad, piece-absent, piece-unlike, piece-took}
 use borrow.Author.Needs.{needs}
 use Rattle.one_pass.proofs.put_logged.Statement.{statement}
 use Rattle.one_pass.proofs.put_logged.Tie as tie
@@ -50,17 +51,20 @@ put-ie-requires c κs = search needs
 same-length : tie.Need-same-length
 same-length c = search needs
 
+took : (c : tie.After-put-ie) → let a = c .before .before .before .before .before .before .before .before .before .before .before .before .before .before .before .before .before .args in Took (pieceBy (lentOf (a .table .now) (a .rows .now) (a .received .now) (a .set .now)) (a .place) (a .iei)) (a .at) (a .out .now) (c .put-ie .result) (c .put-ie .last .0)
+took c = let a = c .before .before .before .before .before .before .before .before .before .before .before .before .before .before .before .before .before .args in piece-took (a .table .now) (a .rows .now) (a .received .now) (a .set .now) (a .place) (a .iei) (c .before .before .before .before .before .before .before .before .before .before .before .row-at .result) (c .before .before .before .before .before .before .before .before .before .before .before .row-at .ensures) (sym (c .before .before .before .before .before .before .before .before .before .before .is-good .ensures) ∙ not-false _ (c .before .before .before .before .before .before .before .before .before .if1 .left)) (c .before .before .before .before .before .before .before .if2 .left) (sym (c .before .before .before .before .before .is-unlike .ensures) ∙ c .before .before .before .before .if3 .left) (omega (arith, c .before .before .before .before .before .before .before .before .before .before .before .before .before .before .before .before .before .fits .iei)) (c .before .before .before .before .before .before .numbers-at .ensures) (c .before .form-of .ensures) (c .before .before .before .value-octets .ensures .0) (a .at) (a .out .now) (c .before .before .before .before .before .before .before .before .before .before .before .before .before .before .before .before .before .pre) (c .put-ie .ensures)
+
 returns-4 : tie.Need-returns-4
-returns-4 c = let a = c .before .before .before .before .before .before .before .before .before .before .before .before .before .before .before .before .before .before .before .before .args in piece-zero (a .table .now) (a .rows .now) (a .received .now) (a .set .now) (a .place) (a .iei) (c .before .before .before .before .before .before .before .before .before .before .before .before .before .before .row-at .result) (c .before .before .before .before .before .before .before .before .before .before .before .before .before .before .row-at .ensures) (sym (c .before .before .before .before .before .before .before .before .before .before .before .before .before .is-good .ensures) ∙ not-false _ (c .before .before .before .before .before .before .before .before .before .before .before .before .if1 .left)) (c .before .before .before .before .before .before .before .before .before .before .if2 .left) (sym (c .before .before .before .before .before .before .before .before .is-unlike .ensures) ∙ c .before .before .before .before .before .before .before .if3 .left) (omega (arith, c .before .before .before .before .before .before .before .before .before .before .before .before .before .before .before .before .before .before .before .before .fits .iei)) (c .before .before .before .before .before .before .before .before .before .numbers-at .ensures) (c .before .before .before .before .form-of .ensures) (c .before .before .before .before .before .before .value-octets .ensures .0) (a .at) (a .out .now) (c .before .before .before .before .before .before .before .before .before .before .before .before .before .before .before .before .before .before .before .before .pre) (c .before .before .before .put-ie .ensures) (c .if4 .taken)
+returns-4 c = took (c .before .before .before) .zero (c .if4 .taken)
 
 add-t18 : tie.Need-add-t18
-add-t18 c = omega (arith, c .before .before .before .before .before .before .before .before .before .before .before .before .before .before .before .before .before .before .before .before .good, let a = c .before .before .before .before .before .before .before .before .before .before .before .before .before .before .before .before .before .before .before .before .args in piece-inside (a .table .now) (a .rows .now) (a .received .now) (a .set .now) (a .place) (a .iei) (c .before .before .before .before .before .before .before .before .before .before .before .before .before .before .row-at .result) (c .before .before .before .before .before .before .before .before .before .before .before .before .before .before .row-at .ensures) (sym (c .before .before .before .before .before .before .before .before .before .before .before .before .before .is-good .ensures) ∙ not-false _ (c .before .before .before .before .before .before .before .before .before .before .before .before .if1 .left)) (c .before .before .before .before .before .before .before .before .before .before .if2 .left) (sym (c .before .before .before .before .before .before .before .before .is-unlike .ensures) ∙ c .before .before .before .before .before .before .before .if3 .left) (omega (arith, c .before .before .before .before .before .before .before .before .before .before .before .before .before .before .before .before .before .before .before .before .fits .iei)) (c .before .before .before .before .before .before .before .before .before .numbers-at .ensures) (c .before .before .before .before .form-of .ensures) (c .before .before .before .before .before .before .value-octets .ensures .0) (a .at) (a .out .now) (c .before .before .before .before .before .before .before .before .before .before .before .before .before .before .before .before .before .before .before .before .pre) (c .before .before .before .put-ie .ensures))
+add-t18 c = omega (arith, c .before .before .before .before .before .before .before .before .before .before .before .before .before .before .before .before .before .before .before .before .good, took (c .before .before .before) .inside)
 
 same-length-2 : tie.Need-same-length-2
 same-length-2 c = search needs
 
 returns-5 : tie.Need-returns-5
-returns-5 c = let a = c .before .before .before .before .before .before .before .before .before .before .before .before .before .before .before .before .before .before .before .before .args in piece-more (a .table .now) (a .rows .now) (a .received .now) (a .set .now) (a .place) (a .iei) (c .before .before .before .before .before .before .before .before .before .before .before .before .before .before .row-at .result) (c .before .before .before .before .before .before .before .before .before .before .before .before .before .before .row-at .ensures) (sym (c .before .before .before .before .before .before .before .before .before .before .before .before .before .is-good .ensures) ∙ not-false _ (c .before .before .before .before .before .before .before .before .before .before .before .before .if1 .left)) (c .before .before .before .before .before .before .before .before .before .before .if2 .left) (sym (c .before .before .before .before .before .before .before .before .is-unlike .ensures) ∙ c .before .before .before .before .before .before .before .if3 .left) (omega (arith, c .before .before .before .before .before .before .before .before .before .before .before .before .before .before .before .before .before .before .before .before .fits .iei)) (c .before .before .before .before .before .before .before .before .before .numbers-at .ensures) (c .before .before .before .before .form-of .ensures) (c .before .before .before .before .before .before .value-octets .ensures .0) (a .at) (a .out .now) (c .before .before .before .before .before .before .before .before .before .before .before .before .before .before .before .before .before .before .before .before .pre) (c .before .before .before .put-ie .ensures) (c .if4 .left)
+returns-5 c = took (c .before .before .before) .more (c .if4 .left)
 
 pub put-logged-spec : {M : Type 1} → statement M
 put-logged-spec =

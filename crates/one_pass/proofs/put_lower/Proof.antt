@@ -1,9 +1,9 @@
 -- `put_lower` is `put_between` where there is a place.
 -- Of none there is nothing to put.
 use native.Mathlib.Omega.{arith}
-use Rattle.one_pass.specs.Passes.{lentOf}
-use Rattle.one_pass.proofs.Pieces.{put-nothing}
-use Rattle.one_pass.proofs.Turns.{ranged-over}
+use Rattle.placing.specs.Pieces.{lentOf}
+use Rattle.placing.proofs.Pieces.{put-nothing}
+use Rattle.placing.proofs.Pieces.{ranged-over}
 use borrow.Author.Needs.{needs}
 use Rattle.one_pass.proofs.put_lower.Statement.{statement}
 use Rattle.one_pass.proofs.put_lower.Tie as tie

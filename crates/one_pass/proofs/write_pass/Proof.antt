@@ -4,8 +4,9 @@ use native.Mathlib.Omega.{arith}
 use mathlib.Core.Path.{sym, _∙_}
 use lib.ListN.{length}
 use Rattle.definitions.specs.Rows.{rowsOf}
-use Rattle.one_pass.specs.Passes.{lentOf}
-use Rattle.one_pass.proofs.Outputs.{of-few, of-many, without-logs, short-enough, not-short}
+use Rattle.placing.specs.Pieces.{lentOf}
+use Rattle.placing.proofs.Copies.{of-few, of-many}
+use Rattle.one_pass.proofs.Outputs.{without-logs, short-enough, not-short}
 use borrow.Author.Needs.{needs}
 use Rattle.one_pass.proofs.write_pass.Statement.{statement}
 use Rattle.one_pass.proofs.write_pass.Tie as tie

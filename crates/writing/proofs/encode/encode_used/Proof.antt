@@ -1,6 +1,6 @@
 -- `encode_used` writes in one pass where that does, and else measures first.
 -- Where the pass gave up the output is as it was.
-use Rattle.one_pass.specs.Passes.{lentOf, capacity}
+use Rattle.placing.specs.Pieces.{lentOf, capacity}
 use Rattle.one_pass.proofs.Outputs.{wrote-all}
 use Rattle.definitions.specs.Rows.{rowsOf}
 use lib.ListN.{length}
