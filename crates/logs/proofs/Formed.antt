@@ -1,18 +1,21 @@
 -- Both logs passed an entry at a time: a log that is malformed further on is malformed, and what is left decides.
 -- Each step moves an entry from what is left into what is passed; at the end nothing is left.
-use Prim.Native.Nat.{ℕ, zero, suc, _+_, _≤_}
+use Prim.Native.Nat.{ℕ, zero, suc, _+_, _-_, _≤_, _<_}
 use native.Mathlib.Omega.{arith}
 use mathlib.Core.Path.{_≡_, refl, ap, sym, _∙_}
 use mathlib.Core.List.{List, [], _∷_}
 use mathlib.Core.Bool.{true, false, false≢true}
 use mathlib.Core.Option.{Option, none, some}
-use lib.ListN.{length, take, drop, length-take, length-drop, length-append}
+use lib.ListN.{length, getD, take, drop, length-take, length-drop, length-append}
+use lib.Seq.{getD-drop}
 use Rattle.definitions.specs.Basic.{isNone, concat}
 use Rattle.definitions.specs.Logs.{Placed, Count, countAt, put, keptList, orderList, orEmpty}
 use Rattle.definitions.proofs.Logs.{entryOf, kept-nil}
 use Rattle.definitions.proofs.LogSteps.{KeptEntry, KeptAt, keptFrom, kept-split, kept-next, kept-over, kept-none}
-use Rattle.definitions.proofs.LogWalks.{Left, left-begin, left-step, left-stop, left-end}
+use Rattle.definitions.proofs.LogWalks.{left-begin, left-step, left-stop, left-end}
+use Rattle.kept.proofs.Counts.{entry-like}
 use Rattle.logs.specs.Checks.{keptOctets, checkedLogs, Checked}
+use Rattle.logs.specs.Walks.{with, Keeping}
 use Rattle.logs.specs.declared.Logs.{Logs}
 use Rattle.logs.specs.declared.Kept.{Kept}
 
@@ -25,11 +28,6 @@ none-put x (some xs) = refl
 
 -- ---- the kept log
 
--- the octets so far with those of what is left
-unfoldable pub with : ℕ → Option (List (List ℕ)) → Kept
-with n none = Kept.Malformed
-with n (some es) = Kept.Octets (n + length (concat es))
-
 with-put : (n : ℕ) (e : List ℕ) (o : Option (List (List ℕ))) → with (n + length e) o ≡ with n (put e o)
 unfolding with put concat
 with-put n e none = refl
@@ -39,10 +37,6 @@ with-none : (o : Option (List (List ℕ))) → with 0 o ≡ keptOctets o
 unfolding with keptOctets
 with-none none = refl
 with-none (some es) = let z : 0 + length (concat es) ≡ length (concat es) = omega arith in ap Kept.Octets z
-
-pub record Keeping (kept : List ℕ) (at octets : ℕ) : Type 0 where
-  pub few : octets ≤ at
-  pub left : Left keptList kept (keptOctets (keptList kept)) at (with octets)
 
 module _ (kept : List ℕ) where
   pub keeping-begun : Keeping kept 0 0
@@ -64,6 +58,14 @@ module _ (kept : List ℕ) where
     pub keeping-ended : length kept ≤ at → Kept.Octets octets ≡ keptOctets (keptList kept)
     unfolding with concat
     keeping-ended h = let z : octets ≡ octets + length {A = ℕ} (concat []) = omega arith in ap Kept.Octets z ∙ left-end keptList kept _ (l .left) kept-nil h
+
+    -- an entry that is as long as expected, behind a count of one octet
+    pub keeping-like : (n : ℕ) → 1 ≤ n → n < 128 → n < length kept - at → getD kept at 0 ≡ n → Keeping kept (at + (n + 1)) (octets + n)
+    keeping-like n h m r e =
+        let i = l .left .inside in
+        let z : at + (n + 1) ≡ at + (1 + n) = omega arith in
+        let y : at + 0 ≡ at = omega arith in
+        rw z (keeping-step (kept-split kept at i (entry-like (drop at kept) n h m (simp length-drop (omega arith)) (getD-drop at kept 0 0 ∙ rw y e))))
 
 -- ---- both
 

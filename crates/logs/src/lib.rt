@@ -1,13 +1,15 @@
 // Whether a log is well formed: each by itself, as writing asks, and both at once, as the findings do.
 use kept::Count;
-use kept::entry_like;
+use kept::entry_at;
 use order::Front;
 use order::entry_len;
 use order::front_at;
 ghost use mathlib.Core.Path.{_≡_};
+ghost use Prim.Native.Nat.{_≤_};
 ghost use Rattle.definitions.specs.Basic.{isNone};
 ghost use Rattle.definitions.specs.Logs.{orderList, keptList};
 ghost use Rattle.logs.specs.Checks.{keptOctets, checkedLogs};
+ghost use Rattle.logs.specs.Walks.{Keeping};
 
 // Two logs that are well formed, with the octets of all kept elements; or the first that is not.
 pub enum Logs {
@@ -40,19 +42,55 @@ pub fn order_malformed(order: &[u8]) -> bool
     false
 }
 
-// A kept log measured to its end. Entries of like length often stand together, so each is expected to be as long as the one before.
+// Where a walk over a kept log is, and the octets of the elements before it.
+pub struct Along {
+    pub at: usize,
+    pub octets: usize,
+}
+
+// Past the entries that have so many octets, each behind a count of one octet. Such entries often stand together, and where one is known to
+// begin, the count need not be waited for.
+fn past_like(kept: &[u8], from: Along, n: usize) -> Along
+    requires { ⌜ Keeping (now kept) (from .at) (from .octets) ⌝ }
+    ensures { λ r. ⌜ Keeping (now (kept .entry)) (r .at) (r .octets) × (from .at ≤ r .at) ⌝ }
+{
+    if n < 1 {
+        return from;
+    }
+    if n > 127 {
+        return from;
+    }
+    let mut at = from.at;
+    let mut octets = from.octets;
+    while kept.len() - at > n {
+        if kept[at] != (n as u8) {
+            return Along { at, octets };
+        }
+        octets += n;
+        at += n + 1;
+    }
+    Along { at, octets }
+}
+
+// A kept log measured to its end.
 pub fn kept_len(kept: &[u8]) -> Kept
     ensures { λ r. ⌜ r ≡ keptOctets (keptList (now (kept .entry))) ⌝ }
 {
     let mut at = 0;
     let mut octets = 0;
-    let mut before = 1;
     while at < kept.len() {
-        match entry_like(&kept[at..], before) {
+        match entry_at(&kept[at..]) {
             Count::Is(value, took) => {
-                before = value;
-                octets += value;
-                at += took + value;
+                let along = past_like(
+                    kept,
+                    Along {
+                        at: at + (took + value),
+                        octets: octets + value,
+                    },
+                    value,
+                );
+                at = along.at;
+                octets = along.octets;
             }
             Count::Not => {
                 return Kept::Malformed;

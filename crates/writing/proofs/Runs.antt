@@ -40,6 +40,16 @@ one-of [] d h g = absurd (omega arith)
 one-of (x ∷ []) d h g = front-one x d g
 one-of (x ∷ y ∷ s) d h g = absurd (omega arith)
 
+-- and one of two
+pub two-of : (s d : List ℕ) → length s ≡ 2 → 2 ≤ length d → set (set d 0 (getD s 0 0)) 1 (getD s 1 0) ≡ over s d
+unfolding over
+two-of [] d h g = absurd (omega arith)
+two-of (x ∷ []) d h g = absurd (omega arith)
+two-of (x ∷ y ∷ []) [] h g = absurd (omega arith)
+two-of (x ∷ y ∷ []) (a ∷ []) h g = absurd (omega arith)
+two-of (x ∷ y ∷ []) (a ∷ b ∷ d) h g = refl
+two-of (x ∷ y ∷ z ∷ s) d h g = absurd (omega arith)
+
 -- ---- the kept elements of a run, one turn
 
 module _ (n i : ℕ) (h : i < n) (ks : List (List ℕ)) where

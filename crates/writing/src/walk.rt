@@ -146,13 +146,18 @@ fn put_lower<'a>(
     put_added(table, rows, received, set, added, from, to, output, at)
 }
 
-// Octets that have room. One octet is stored right here: a call of the copy would take longer.
+// Octets that have room. One and two are stored right here: a call of the copy would take longer.
 fn put_octets(out: &mut [u8], octets: &[u8])
     requires { ⌜ length (now octets) ≤ length (now out) ⌝ }
     ensures { λ r. ⌜ now (out .exit) ≡ over (now (octets .entry)) (now (out .entry)) ⌝ }
 {
     if octets.len() == 1 {
         out[0] = octets[0];
+        return;
+    }
+    if octets.len() == 2 {
+        out[0] = octets[0];
+        out[1] = octets[1];
         return;
     }
     put_slice(out, octets);
