@@ -1,5 +1,5 @@
 -- Octets that are held in a local array and put out of it: the first so many of both are alike, turn by turn.
--- The last law is of two moves that overlap: the first octets, then the last ones over them.
+-- One law is of two moves that overlap: the first octets, then the last ones over them.
 use Prim.Native.Nat.{ℕ, _+_, _-_, _≤_, _<_}
 use native.Mathlib.Omega.{arith}
 use native.Mathlib.Numerals.{add-one}

@@ -33,12 +33,30 @@ fn put_both(out: &mut [u8], octets: &[u8], n: usize)
     put_piece(&mut out[at..], &octets[at..], n);
 }
 
-// At most 32 octets.
+// At most three octets, as most values have that are copied.
+fn put_few(out: &mut [u8], octets: &[u8])
+    requires { ⌜ (length (now octets) ≤ 3) × (length (now octets) ≤ length (now out)) ⌝ }
+    ensures { λ r. ⌜ now (out .exit) ≡ over (now (octets .entry)) (now (out .entry)) ⌝ }
+{
+    if octets.len() >= 2 {
+        put_both(out, octets, 2);
+        return;
+    }
+    if octets.len() >= 1 {
+        put_both(out, octets, 1);
+    }
+}
+
+// At most 32 octets. The fewest are asked for first.
 fn put_short(out: &mut [u8], octets: &[u8])
     requires { ⌜ (length (now octets) ≤ 32) × (length (now octets) ≤ length (now out)) ⌝ }
     ensures { λ r. ⌜ now (out .exit) ≡ over (now (octets .entry)) (now (out .entry)) ⌝ }
 {
     let n = octets.len();
+    if n < 4 {
+        put_few(out, octets);
+        return;
+    }
     if n >= 16 {
         put_both(out, octets, 16);
         return;
@@ -47,17 +65,7 @@ fn put_short(out: &mut [u8], octets: &[u8])
         put_both(out, octets, 8);
         return;
     }
-    if n >= 4 {
-        put_both(out, octets, 4);
-        return;
-    }
-    if n >= 2 {
-        put_both(out, octets, 2);
-        return;
-    }
-    if n >= 1 {
-        put_both(out, octets, 1);
-    }
+    put_both(out, octets, 4);
 }
 
 // At most 65,535 octets, as many as an element has.
