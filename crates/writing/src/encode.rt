@@ -146,6 +146,29 @@ fn encode_logged<'a>(
     }
 }
 
+// The most received octets of a message that a pass is tried with: one with more is seldom shorter than the pass's array.
+const MOST_PASSED: usize = 512;
+
+// The same in one pass, if that is tried and reaches the end; else nothing is written.
+fn pass_used<'a>(
+    table: &[u32],
+    index: &[u8],
+    rows: &[u32],
+    received: &'a [u8],
+    set: &'a [u8],
+    kept: &[u8],
+    order: &[u8],
+    output: &mut [u8],
+) -> Passed
+    requires { ⌜ Limited (now table) (now index) (now rows) (now received) (now set) (now kept) (now order) ⌝ }
+    ensures { λ r. ⌜ Plainly (writing (now (table .entry)) (now (rows .entry)) (now (received .entry)) (usedUp (now (set .entry))) (usedUp (now (order .entry))) (usedUp (now (kept .entry))) (now (output .entry))) r (now (output .entry)) (now (output .exit)) ⌝ }
+{
+    if received.len() > MOST_PASSED {
+        return Passed::Not;
+    }
+    write_pass(table, index, rows, received, set, kept, order, output)
+}
+
 // The same in one pass, if that reaches the end, and else measured first.
 fn encode_used<'a>(
     table: &[u32],
@@ -160,7 +183,7 @@ fn encode_used<'a>(
     requires { ⌜ Limited (now table) (now index) (now rows) (now received) (now set) (now kept) (now order) ⌝ }
     ensures { λ r. ⌜ Encodes (writing (now (table .entry)) (now (rows .entry)) (now (received .entry)) (usedUp (now (set .entry))) (usedUp (now (order .entry))) (usedUp (now (kept .entry))) (now (output .entry))) r (now (output .exit)) ⌝ }
 {
-    match write_pass(table, index, rows, received, set, kept, order, output) {
+    match pass_used(table, index, rows, received, set, kept, order, output) {
         Passed::To(n) => Encoded::Done(n),
         Passed::Not => encode_logged(table, index, rows, received, set, kept, order, output),
     }
@@ -553,7 +576,7 @@ fn encode_numbered<'a>(
     }
 }
 
-// Whether a message has no logs and is within all limits, by a number that names a table.
+// Whether a message has no logs, is within all limits and may be as short as a pass can write, by a number that names a table.
 fn is_plain(
     number: u32,
     rows: &[u32],
@@ -571,7 +594,7 @@ fn is_plain(
     if order_used > 0 {
         return false;
     }
-    if received.len() > MOST_OCTETS {
+    if received.len() > MOST_PASSED {
         return false;
     }
     if too_long(set, set_used, MOST_OCTETS) {

@@ -39,7 +39,7 @@ mul-result c = omega (arith, c .before .places-of .ensures, few (c .before .befo
 returns-6 : tie.Need-returns-6
 returns-6 c = λ q. record {
   table = there (c .before .before .before .before .before .before .before .before .before .before .args .number) (λ z. c .if5 .left (c .before .places-of .ensures ∙ z));
-  received-short = c .before .before .before .before .if3 .left;
+  received-short = omega (arith, c .before .before .before .before .if3 .left);
   set-short = sym (c .before .before .before .too-long .ensures) ∙ c .before .before .if4 .left;
   no-kept = omega (arith, c .before .before .before .before .before .before .if1 .left);
   no-order = omega (arith, c .before .before .before .before .before .if2 .left);
