@@ -33,7 +33,7 @@ first-same : (f : Form) (left : List ℕ) → 0 < length left → getD (octetsOf
 first-same f [] h = absurd (omega arith)
 first-same f (x ∷ xs) h = front-first (front-octets f x xs)
 
-known-found : (t : List Row) (option : Bool) (s : State) (left : List ℕ) (k x n : ℕ) → 0 < length left → k < 128
+pub known-found : (t : List Row) (option : Bool) (s : State) (left : List ℕ) (k x n : ℕ) → 0 < length left → k < 128
     → foundAt s x (ieiOf (getD left 0 0)) k n (cameKnown (rowAt t k) (ieiOf (getD left 0 0)) option (bit k (setOf (s .seen))) (ltb k (s .highest)) left)
     ≡ stepOf (next (known t option (metOf s) (s .at) left k) (meet k (metOf s)))
 unfolding fitOf stateAt includingPlace known meet elementOf stateOf ieiAt
@@ -90,7 +90,7 @@ unknown-fits start (x ∷ xs) {n = n} e =
     let f : Frames (unknownForm start x) (x ∷ xs) (some n) = rw e at (whole-frames (unknownForm start x) (x ∷ xs)) in
     (f .2, f .1)
 
-strange-found : (start : ℕ) (s : State) → s .seen .low < 2 ^ 64 → (left : List ℕ) (x : ℕ) → (let o : Option ℕ = unknownLength start left in foundAt s x (ieiOf (getD left 0 0)) 255 (length left) (cameStrange x (missing start left) left o) ≡ stepOf (strangerStep start (metOf s) (s .at) x left o))
+pub strange-found : (start : ℕ) (s : State) → s .seen .low < 2 ^ 64 → (left : List ℕ) (x : ℕ) → (let o : Option ℕ = unknownLength start left in foundAt s x (ieiOf (getD left 0 0)) 255 (length left) (cameStrange x (missing start left) left o) ≡ stepOf (strangerStep start (metOf s) (s .at) x left o))
 strange-found start s low left x = by (unknownLength start left) refl
   where
     by : (o : Option ℕ) → unknownLength start left ≡ o → Strange start s low left x o

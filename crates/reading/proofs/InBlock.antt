@@ -13,10 +13,10 @@ use Rattle.definitions.specs.Tables.{tableOf, startOf}
 use Rattle.definitions.specs.Reading.{Lent, unread, reading}
 use Rattle.definitions.specs.Block.{ReadBlock, unreadBlock, twoParts, readingBlock, readingBlockBy}
 use Rattle.definitions.proofs.Blocks.{inOne, asBlock, keptUse, as-reading}
-use Rattle.reading.specs.Decodes.{decodedAs, Reads}
+use Rattle.filling.specs.Decodes.{decodedAs, Reads}
 use Rattle.reading.specs.Blocks.{ReadsBlock}
-use Rattle.reading.specs.declared.decode.Decoded.{Decoded}
-use Rattle.reading.proofs.Decoding.{refused}
+use Rattle.filling.specs.declared.Decoded.{Decoded}
+use Rattle.filling.proofs.Noting.{refused}
 
 -- a part that the block is too short for
 pub first-short : (k : ℕ) (block : List ℕ) → length block < k → length (take k block) < k

@@ -5,26 +5,22 @@ use native.Mathlib.Omega.{arith}
 use mathlib.Core.Path.{_≡_, refl, ap, sym, _∙_}
 use mathlib.Core.List.{List, [], _++_, append-assoc}
 use mathlib.Core.Bool.{Bool}
-use lib.ListN.{length, take, drop, length-append, length-drop, take-append-drop}
-use lib.Seq.{take-append-le, drop-append-le, take-append-add, drop-append-add, take-append-seam, drop-append-seam, length-take-le}
+use lib.ListN.{length, take, drop, length-append, take-append-drop}
+use lib.Seq.{take-append-add, drop-append-add, take-append-seam, drop-append-seam, length-take-le}
 use Rattle.definitions.specs.Basic.{over, overAt}
-use Rattle.definitions.specs.Rows.{rowsOf}
+use Rattle.definitions.specs.Rows.{Row}
 use Rattle.definitions.specs.Elements.{elements, cutShort}
 use Rattle.definitions.proofs.Lists.{length-overAt}
 use Rattle.plain_reading.specs.Entered.{rowEntered}
-use Rattle.reading.specs.Fills.{keptOfFound, noteBy, done, cut, Ready}
+use Rattle.filling.specs.Fills.{keptOfFound, noteBy, done, cut, Ready}
 use Rattle.elements.specs.Nexts.{startState}
 use Rattle.elements.specs.declared.element.State.{State}
 use Rattle.elements.specs.declared.element.Element.{Element}
 use Rattle.elements.proofs.Nexts.{from, Nexts}
-use Rattle.reading.proofs.Filling.{whole, Filling, begun, kept-fits, order-fits, filled, moved, ended, cut-there}
+use Rattle.noting.proofs.Front.{over-first}
+use Rattle.filling.proofs.Filling.{Places, whole, Filling, begun, kept-fits, order-fits, filled, moved, ended, cut-there}
 
 -- ---- a slice of two parts
-
-over-first : (k : ℕ) (s a b : List ℕ) → k + length s ≤ length a → overAt k s (a ++ b) ≡ overAt k s a ++ b
-unfolding overAt over
-over-first k s a b h =
-    rw (take-append-le k a b (omega arith), drop-append-le k a b (omega arith), drop-append-le (length s) (drop k a) b (simp length-drop (omega arith))) (simp append-assoc)
 
 over-second : (o : ℕ) (s a b : List ℕ) → overAt (length a + o) s (a ++ b) ≡ a ++ overAt o s b
 unfolding overAt over
@@ -32,9 +28,9 @@ over-second o s a b = rw (take-append-add a b o, drop-append-add a b o) (simp ap
 
 -- ---- the invariant
 
-module _ (table index : List ℕ) (start : ℕ) (option : Bool) (part rows₀ block₀ : List ℕ) (seam : ℕ) where
+module _ (t : List Row) (w start : ℕ) (option : Bool) (part rows₀ block₀ : List ℕ) (seam : ℕ) where
   abbrev Fill : State → ℕ → ℕ → List ℕ → List ℕ → List ℕ → Type 0
-  Fill = Filling table index start option part rows₀ (take seam block₀) (drop seam block₀)
+  Fill = Filling t w start option part rows₀ (take seam block₀) (drop seam block₀)
 
   pub record Parts (s : State) (k o : ℕ) (rows block : List ℕ) : Type 0 where
     pub first : List ℕ
@@ -45,8 +41,8 @@ module _ (table index : List ℕ) (start : ℕ) (option : Bool) (part rows₀ bl
     pub order-is : o ≡ seam + used
     pub filling : Fill s k used rows first second
 
-  pub begun-parts : Ready table index start option part rows₀ (take seam block₀) (drop seam block₀) → seam ≤ length block₀ → Parts startState 0 seam rows₀ block₀
-  begun-parts r h =
+  pub begun-parts : (places : Places t w start option) → Ready t w start option part rows₀ (take seam block₀) (drop seam block₀) → seam ≤ length block₀ → Parts startState 0 seam rows₀ block₀
+  begun-parts places r h =
       record {
         first = take seam block₀;
         second = drop seam block₀;
@@ -54,7 +50,7 @@ module _ (table index : List ℕ) (start : ℕ) (option : Bool) (part rows₀ bl
         block-is = sym (take-append-drop seam block₀);
         first-long = length-take-le seam block₀ h;
         order-is = omega arith;
-        filling = begun table index start option part rows₀ (take seam block₀) (drop seam block₀) r;
+        filling = begun t w start option part rows₀ (take seam block₀) (drop seam block₀) r places;
       }
 
   -- the slice stays as long
@@ -71,13 +67,13 @@ module _ (table index : List ℕ) (start : ℕ) (option : Bool) (part rows₀ bl
   pub in-second : {s : State} {k o : ℕ} {rows block : List ℕ} (i : Parts s k o rows block) → drop seam block ≡ i .second
   in-second {block = block} i = ap (drop seam) (i .block-is) ∙ ap (λ (n : ℕ). drop n (i .first ++ i .second)) (sym (i .first-long)) ∙ drop-append-seam (i .first) (i .second)
 
-  module _ (ready : Ready table index start option part rows₀ (take seam block₀) (drop seam block₀)) (s v : State) (e : Element) (k o : ℕ) (rows block : List ℕ) (i : Parts s k o rows block)
-      (n : Nexts (rowsOf table) start option part s e v) where
+  module _ (places : Places t w start option) (ready : Ready t w start option part rows₀ (take seam block₀) (drop seam block₀)) (s v : State) (e : Element) (k o : ℕ) (rows block : List ℕ) (i : Parts s k o rows block)
+      (n : Nexts t start option part s e v) where
     in-kept : k + length (keptOfFound e part) ≤ length (i .first)
-    in-kept = kept-fits table index start option part rows₀ (take seam block₀) (drop seam block₀) ready s v e k (i .used) rows (i .first) (i .second) (i .filling) n
+    in-kept = kept-fits t w start option part rows₀ (take seam block₀) (drop seam block₀) ready places s v e k (i .used) rows (i .first) (i .second) (i .filling) n
 
     in-order : i .used + length (noteBy (e .placed)) ≤ length (i .second)
-    in-order = order-fits table index start option part rows₀ (take seam block₀) (drop seam block₀) ready s v e k (i .used) rows (i .first) (i .second) (i .filling) n
+    in-order = order-fits t w start option part rows₀ (take seam block₀) (drop seam block₀) ready places s v e k (i .used) rows (i .first) (i .second) (i .filling) n
 
     block-long : length block ≡ length (i .first) + length (i .second)
     block-long = ap length (i .block-is) ∙ length-append (i .first) (i .second)
@@ -95,31 +91,31 @@ module _ (table index : List ℕ) (start : ℕ) (option : Bool) (part rows₀ bl
     pub order-room : {block′ : List ℕ} → block′ ≡ overAt k (keptOfFound e part) block → o + length (noteBy (e .placed)) ≤ length block′
     order-room q = omega (arith, in-order, i .order-is, first-stays, ap length (kept-put q) ∙ length-append (overAt k (keptOfFound e part) (i .first)) (i .second))
 
-    pub parts-next : {k′ o′ : ℕ} {rows′ block′ block″ : List ℕ} → k′ ≡ k + length (keptOfFound e part) → block′ ≡ overAt k (keptOfFound e part) block → rows′ ≡ rowEntered (rowsOf table) e rows
+    pub parts-next : {k′ o′ : ℕ} {rows′ block′ block″ : List ℕ} → k′ ≡ k + length (keptOfFound e part) → block′ ≡ overAt k (keptOfFound e part) block → rows′ ≡ rowEntered t e rows
         → o′ ≡ o + length (noteBy (e .placed)) → block″ ≡ overAt o (noteBy (e .placed)) block′ → Parts v k′ o′ rows′ block″
-    parts-next k-is q rows-are o-is w =
+    parts-next k-is q rows-are o-is v-is =
         record {
           first = overAt k (keptOfFound e part) (i .first);
           second = overAt (i .used) (noteBy (e .placed)) (i .second);
           used = i .used + length (noteBy (e .placed));
           block-is =
-              w
+              v-is
               ∙ ap (overAt o (noteBy (e .placed))) (kept-put q)
-              ∙ ap (λ (m : ℕ). overAt m (noteBy (e .placed)) (overAt k (keptOfFound e part) (i .first) ++ i .second)) (i .order-is ∙ ap (λ (m : ℕ). m + i .used) (sym first-stays))
+              ∙ ap (λ (q : ℕ). overAt q (noteBy (e .placed)) (overAt k (keptOfFound e part) (i .first) ++ i .second)) (i .order-is ∙ ap (λ (q : ℕ). q + i .used) (sym first-stays))
               ∙ over-second (i .used) (noteBy (e .placed)) (overAt k (keptOfFound e part) (i .first)) (i .second);
           first-long = first-stays;
           order-is = omega (arith, o-is, i .order-is);
           filling =
-              moved table index start option part rows₀ (take seam block₀) (drop seam block₀)
-              (filled table index start option part rows₀ (take seam block₀) (drop seam block₀) ready s v e k (i .used) rows (i .first) (i .second) (i .filling) n) k-is refl rows-are refl refl;
+              moved t w start option part rows₀ (take seam block₀) (drop seam block₀)
+              (filled t w start option part rows₀ (take seam block₀) (drop seam block₀) ready places s v e k (i .used) rows (i .first) (i .second) (i .filling) n) k-is refl rows-are refl refl;
         }
 
   -- at the end, and at an element that is cut short
   module _ (s : State) (k o : ℕ) (rows block : List ℕ) (i : Parts s k o rows block) where
-    pub parts-ended : {r : ℕ} → r + seam ≡ o → from (rowsOf table) start option part s ≡ elements [] → done k r rows (take seam block) (drop seam block) ≡ whole table index start option part rows₀ (take seam block₀) (drop seam block₀)
+    pub parts-ended : {r : ℕ} → r + seam ≡ o → from t start option part s ≡ elements [] → done k r rows (take seam block) (drop seam block) ≡ whole t w start option part rows₀ (take seam block₀) (drop seam block₀)
     parts-ended {r} h e =
         let u : r ≡ i .used = omega (arith, i .order-is) in
-        rw (u, in-first i, in-second i) (ended table index start option part rows₀ (take seam block₀) (drop seam block₀) s k (i .used) rows (i .first) (i .second) (i .filling) e)
+        rw (u, in-first i, in-second i) (ended t w start option part rows₀ (take seam block₀) (drop seam block₀) s k (i .used) rows (i .first) (i .second) (i .filling) e)
 
-    pub parts-cut : {a x n m : ℕ} → from (rowsOf table) start option part s ≡ cutShort a x n m → cut a x n m ≡ whole table index start option part rows₀ (take seam block₀) (drop seam block₀)
-    parts-cut e = cut-there table index start option part rows₀ (take seam block₀) (drop seam block₀) s k (i .used) rows (i .first) (i .second) (i .filling) e
+    pub parts-cut : {a x n m : ℕ} → from t start option part s ≡ cutShort a x n m → cut a x n m ≡ whole t w start option part rows₀ (take seam block₀) (drop seam block₀)
+    parts-cut e = cut-there t w start option part rows₀ (take seam block₀) (drop seam block₀) s k (i .used) rows (i .first) (i .second) (i .filling) e

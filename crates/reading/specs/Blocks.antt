@@ -3,8 +3,8 @@ use Prim.Native.Nat.{ℕ}
 use mathlib.Core.Path.{_≡_}
 use mathlib.Core.List.{List}
 use Rattle.definitions.specs.Block.{ReadBlock}
-use Rattle.reading.specs.Decodes.{decodedAs}
-use Rattle.reading.specs.declared.decode.Decoded.{Decoded}
+use Rattle.filling.specs.Decodes.{decodedAs}
+use Rattle.filling.specs.declared.Decoded.{Decoded}
 
 -- the answer, and the lent memory at exit, are those of a reading into a block
 pub record ReadsBlock (r : ReadBlock) (d : Decoded) (rows block : List ℕ) : Type 0 where

@@ -1,42 +1,86 @@
 // Reading an optional part into one block: the kept log first, the order log directly behind it.
-use crate::decode::Decoded;
-use crate::decode::Room;
-use crate::fill::clear_rows;
-use crate::fill::enter_row;
-use crate::fill::keep_octets;
-use crate::fill::note;
-use crate::measure::Measured;
-use crate::measure::measure;
 use crate::plain::plain_many;
+use crate::plain::set_row;
 use checks::Checked;
 use checks::check_and_index;
 use elements::element::Element;
 use elements::element::Step;
 use elements::element::element_step;
+use elements::element::header;
 use elements::next::start_state;
+use filling::Decoded;
+use filling::Room;
+use kept::put_raw;
+use measuring::Measured;
+use measuring::measure;
 use numbered::Loaded;
 use numbered::TLVE_START;
 use numbered::load;
 use octets::MOST_OCTETS;
 use order::Placed;
+use order::entry_len;
+use order::put_placed;
+use rows::columns::form_of;
+use rows::columns::numbers_at;
 use rows::columns::places;
 ghost use mathlib.Core.Path.{_≡_};
 ghost use mathlib.Core.Option.{none};
 ghost use mathlib.Core.Bool.{false};
-ghost use Prim.Native.Nat.{_+_, _≤_};
-ghost use lib.ListN.{length, take, drop};
-ghost use Rattle.definitions.specs.Basic.{overAt};
+ghost use Prim.Native.Nat.{_+_, _*_, _≤_};
+ghost use lib.ListN.{length, take, drop, replicate};
+ghost use Rattle.definitions.specs.Basic.{over, overAt};
 ghost use Rattle.definitions.specs.Rows.{rowsOf, firstBad};
 ghost use Rattle.definitions.specs.Elements.{elements, elementsOf, parted};
 ghost use Rattle.definitions.specs.Block.{readingBlock, readingBlockBy};
 ghost use Rattle.rows.specs.Indexed.{Indexed};
-ghost use Rattle.reading.specs.Fills.{keptOfFound, outcome, filledFrom, Ready, Written};
+ghost use Rattle.definitions.specs.Logs.{keptEntry, orderEntry};
+ghost use Rattle.order.specs.Order.{placedAs};
+ghost use Rattle.rows.specs.Numbers.{Whole};
+ghost use Rattle.plain_reading.specs.Entered.{rowEntered};
+ghost use Rattle.filling.specs.Fills.{RowFits, keptOfFound, outcome, filledFrom, Ready, Written};
 ghost use Rattle.reading.specs.Fitting.{Fits};
 ghost use Rattle.plain_reading.specs.Plains.{plainIn};
 ghost use Rattle.reading.specs.Blocks.{ReadsBlock};
 
-// An element that no row took, behind what the block has of the kept log; the octets then used. As `keep` does: a function of two callers
-// would not be put into the loop of either.
+// No number in the first n.
+fn clear_rows(rows: &mut [u32], n: usize)
+    requires { ⌜ n ≤ length (now rows) ⌝ }
+    ensures { λ r. ⌜ now (rows .exit) ≡ over (replicate n 0) (now (rows .entry)) ⌝ }
+{
+    let mut i = 0;
+    while i < n {
+        rows[i] = 0;
+        i += 1;
+    }
+}
+
+// The row of an accepted element: received, where its value is, and its IEI.
+fn enter_row(rows: &mut [u32], table: &[u32], e: Element)
+    requires { ⌜ Whole (now table) × RowFits (rowsOf (now table)) e (now rows) ⌝ }
+    ensures { λ r. ⌜ now (rows .exit) ≡ rowEntered (rowsOf (now (table .entry))) e (now (rows .entry)) ⌝ }
+{
+    let placed = e.placed;
+    let place = e.place;
+    let start = e.start;
+    let len = e.len;
+    match placed {
+        Placed::Known(iei) => {
+            let row = numbers_at(table, place);
+            let h = header(form_of(row.code, row.size));
+            set_row(
+                rows,
+                4 * place,
+                (start + h) as u32,
+                (len - h) as u32,
+                iei as u32,
+            );
+        }
+        Placed::Unknown => {}
+        Placed::Ignored(_) => {}
+    }
+}
+
+// An element that no row took, behind what the block has of the kept log; the octets then used.
 fn keep_here(octets: &[u8], e: Element, block: &mut [u8], used: usize) -> usize
     requires { ⌜ (e .start + e .len ≤ length (now octets)) × (1 ≤ e .len) × (e .len ≤ 65535) × (used + length (keptOfFound e (now octets)) ≤ length (now block)) ⌝ }
     ensures { λ r. ⌜ (r ≡ used + length (keptOfFound e (now (octets .entry)))) × (now (block .exit) ≡ overAt used (keptOfFound e (now (octets .entry))) (now (block .entry))) ⌝ }
@@ -51,6 +95,23 @@ fn keep_here(octets: &[u8], e: Element, block: &mut [u8], used: usize) -> usize
     }
 }
 
+// The octets of an element behind their count, and behind what the block has; the octets then used.
+fn keep_octets(element: &[u8], block: &mut [u8], used: usize) -> usize
+    requires { ⌜ (1 ≤ length (now element)) × (length (now element) ≤ 65535) × (used + length (keptEntry (now element)) ≤ length (now block)) ⌝ }
+    ensures { λ r. ⌜ (r ≡ used + length (keptEntry (now (element .entry)))) × (now (block .exit) ≡ overAt used (keptEntry (now (element .entry))) (now (block .entry))) ⌝ }
+{
+    used + put_raw(&mut block[used..], element)
+}
+
+// How an element came, behind what the block has of the order log; the octets then used.
+fn note(placed: Placed, order: &mut [u8], used: usize) -> usize
+    requires { ⌜ used + length (orderEntry (placedAs placed)) ≤ length (now order) ⌝ }
+    ensures { λ r. ⌜ (r ≡ used + length (orderEntry (placedAs placed))) × (now (order .exit) ≡ overAt used (orderEntry (placedAs placed)) (now (order .entry))) ⌝ }
+{
+    put_placed(&mut order[used..], placed);
+    used + entry_len(placed)
+}
+
 // Every element of a part, into rows and the two parts of a block, which have room: the octets up to the seam, and those from there on.
 // What `fill_elements` does, with both logs in one slice, since two parts of one cannot be lent at once.
 fn fill_parts(
@@ -63,7 +124,7 @@ fn fill_parts(
     block: &mut [u8],
     seam: usize,
 ) -> Measured
-    requires { ⌜ Ready (now table) (now index) «tlve_start» option (now octets) (now rows) (take seam (now block)) (drop seam (now block)) × (seam ≤ length (now block)) ⌝ }
+    requires { ⌜ Indexed (now table) (now index) × (firstBad (rowsOf (now table)) ≡ none) × Ready (rowsOf (now table)) (4 * length (rowsOf (now table))) «tlve_start» option (now octets) (now rows) (take seam (now block)) (drop seam (now block)) × (seam ≤ length (now block)) ⌝ }
     ensures { λ r. ⌜ outcome r (now (rows .exit)) (take seam (now (block .exit))) (drop seam (now (block .exit))) ≡ filledFrom (rowsOf (now (table .entry))) (parted (rowsOf (now (table .entry))) «tlve_start» option (now (octets .entry))) 0 0 (now (rows .entry)) (take seam (now (block .entry))) (drop seam (now (block .entry))) ⌝ }
 {
     let mut state = start_state();
@@ -99,8 +160,8 @@ fn fill_block(
     block: &mut [u8],
     seam: usize,
 )
-    requires { ⌜ Ready (now table) (now index) «tlve_start» option (now octets) (now rows) (take seam (now block)) (drop seam (now block)) × (seam ≤ length (now block)) × (parted (rowsOf (now table)) «tlve_start» option (now octets) ≡ elements (elementsOf (parted (rowsOf (now table)) «tlve_start» option (now octets)))) ⌝ }
-    ensures { λ r. ⌜ Written (rowsOf (now (table .entry))) (elementsOf (parted (rowsOf (now (table .entry))) «tlve_start» option (now (octets .entry)))) (now (rows .entry)) (take seam (now (block .entry))) (drop seam (now (block .entry))) (now (rows .exit)) (take seam (now (block .exit))) (drop seam (now (block .exit))) ⌝ }
+    requires { ⌜ Indexed (now table) (now index) × (firstBad (rowsOf (now table)) ≡ none) × Ready (rowsOf (now table)) (4 * length (rowsOf (now table))) «tlve_start» option (now octets) (now rows) (take seam (now block)) (drop seam (now block)) × (seam ≤ length (now block)) × (parted (rowsOf (now table)) «tlve_start» option (now octets) ≡ elements (elementsOf (parted (rowsOf (now table)) «tlve_start» option (now octets)))) ⌝ }
+    ensures { λ r. ⌜ Written (rowsOf (now (table .entry))) (4 * length (rowsOf (now (table .entry)))) (elementsOf (parted (rowsOf (now (table .entry))) «tlve_start» option (now (octets .entry)))) (now (rows .entry)) (take seam (now (block .entry))) (drop seam (now (block .entry))) (now (rows .exit)) (take seam (now (block .exit))) (drop seam (now (block .exit))) ⌝ }
 {
     clear_rows(rows, 4 * places(table));
     fill_parts(octets, table, index, tlve_start, option, rows, block, seam);

@@ -1,7 +1,4 @@
-// Reading an optional part: what it needs of the lent logs, then what it writes, by a lent table and by number.
+// Reading an optional part by a lent table, into two logs; and, by a lent table and by number, into one block.
 pub mod block;
 pub mod decode;
-mod fill;
-mod measure;
 mod plain;
-mod short;

@@ -1,7 +1,6 @@
 // By a table and its index, a part of which the table says all (by number into two logs: crates/plain_reading): every element is
 // accepted, in table order, under its row's first IEI. One pass finds its rows, before anything is written; its logs stay empty,
 // whatever the start number and the option.
-use crate::fill::set_row;
 use elements::element::NO_PLACE;
 use elements::element::entry_of;
 use elements::element::fit_of;
@@ -13,13 +12,25 @@ use rows::columns::numbers_at;
 ghost use mathlib.Core.Path.{_≡_};
 ghost use mathlib.Core.Bool.{Bool};
 ghost use mathlib.Core.Option.{none, some};
-ghost use Prim.Native.Nat.{ℕ, _*_, _≤_};
+ghost use mathlib.Core.List.{[], _∷_};
+ghost use Prim.Native.Nat.{ℕ, _+_, _*_, _≤_};
 ghost use lib.ListN.{length};
-ghost use Rattle.definitions.specs.Basic.{pick};
+ghost use Rattle.definitions.specs.Basic.{pick, overAt};
 ghost use Rattle.definitions.specs.Rows.{rowsOf};
 ghost use Rattle.definitions.specs.Elements.{parted};
 ghost use Rattle.reading.specs.Fitting.{Fits};
 ghost use Rattle.plain_reading.specs.Plains.{plainRows, Plainly};
+
+// Four numbers of a row from a position on.
+pub(crate) fn set_row(rows: &mut [u32], at: usize, start: u32, len: u32, iei: u32)
+    requires { ⌜ at + 4 ≤ length (now rows) ⌝ }
+    ensures { λ r. ⌜ now (rows .exit) ≡ overAt at (1 ∷ start ∷ len ∷ iei ∷ []) (now (rows .entry)) ⌝ }
+{
+    rows[at] = 1;
+    rows[at + 1] = start;
+    rows[at + 2] = len;
+    rows[at + 3] = iei;
+}
 
 // Whether the table says all of a part. If so its elements are entered into the rows; if not, the rows are of no use.
 fn plain_pass(octets: &[u8], table: &[u32], index: &[u8; 256], found: &mut [u32]) -> bool

@@ -1,11 +1,11 @@
 // Runs the recorded list on standard input through our reading, and prints how many cases there are of each number, how many
 // answers are the recorded ones in number, values and all lent memory, and each case that is not. README.md has the format.
 ghost use Prim.Native.Nat.{_≤_};
+use filling::Decoded;
 use octets::part;
 use part_answers::decoded_said;
-use reading::decode::Decoded;
 use reading::decode::decode_optional_ies;
-use reading::decode::decode_optional_ies_by;
+use reading_by_number::decode_optional_ies_by;
 use recorded::LENT_TABLE;
 use recorded::after;
 use recorded::cell;

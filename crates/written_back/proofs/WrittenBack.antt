@@ -11,8 +11,8 @@ use Rattle.definitions.specs.Writing.{Wrote, writing}
 use Rattle.promises.specs.RoundTrip.{AreOctets, writtenBack, gives}
 use Rattle.promises.proofs.RoundTrip.{round-trip}
 use Rattle.kept.specs.Kept.{usedOf}
-use Rattle.reading.specs.Decodes.{lentOf, Reads}
-use Rattle.reading.specs.declared.decode.Decoded.{Decoded}
+use Rattle.filling.specs.Decodes.{lentOf, Reads}
+use Rattle.filling.specs.declared.Decoded.{Decoded}
 use Rattle.writing.specs.Encodes.{Encodes}
 use Rattle.writing.specs.declared.encode.Encoded.{Encoded}
 use Rattle.writing.proofs.SameAnswers.{same-encoded}

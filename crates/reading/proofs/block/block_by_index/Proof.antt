@@ -12,7 +12,7 @@ use Rattle.definitions.specs.Reading.{placeRows}
 use Rattle.definitions.specs.Block.{readingBlock}
 use Rattle.definitions.proofs.Blocks.{keptUse}
 use Rattle.definitions.proofs.TableLaws.{few-places}
-use Rattle.reading.proofs.Decoding.{long, no-rows, all-plain}
+use Rattle.noting.proofs.Decoding.{long, no-rows, all-plain}
 use Rattle.reading.proofs.InBlock.{in-block, moved-block}
 use borrow.Author.Needs.{needs}
 use Rattle.reading.proofs.block.block_by_index.Statement.{statement}

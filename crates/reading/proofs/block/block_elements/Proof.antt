@@ -6,7 +6,9 @@ use Prim.Native.Nat.{ℕ}
 use lib.ListN.{take, drop, length-drop}
 use lib.Seq.{length-take-le}
 use Rattle.definitions.proofs.Blocks.{keptUse}
-use Rattle.reading.proofs.Decoding.{needed, cut-is, cut-short, no-kept, no-order, ready, done}
+use Rattle.filling.proofs.Noting.{cut-is}
+use Rattle.noting.proofs.Decoding.{cut-short}
+use Rattle.reading.proofs.Decoding.{needed, no-kept, no-order, ready, done}
 use Rattle.reading.proofs.InBlock.{first-short, in-block}
 use borrow.Author.Needs.{needs}
 use Rattle.reading.proofs.block.block_elements.Statement.{statement}
@@ -27,7 +29,7 @@ returns c =
     let f = c .before .before .before .before .before .before .before .before .before .pre .0 in
     let k = c .before .before .k .given .0 .0 in
     let b = a .block .now in
-    let n = needed _ _ (c .before .before .before .before .before .before .before .before .before .pre .1) (sym (c .before .before .k .given .1) ∙ c .before .before .before .before .measure .ensures) in
+    let n = needed _ _ (c .before .before .before .before .before .before .before .before .before .pre .1) (sym (c .before .before .k .given .1) ∙ c .before .before .before .before .measure .ensures .1 (f .indexed)) in
     in-block (a .table .now) (a .tlve-start) (a .option) (a .octets .now) (a .rows .now) b k (n .kept)
     (no-kept (a .table .now) (a .tlve-start) (a .option) (a .octets .now) (a .rows .now) (take k b) (drop k b) (f .passes) (f .short) (f .room) k (c .before .before .k .given .0 .1 .0) n (first-short k b (omega arith))) refl
 
@@ -40,7 +42,7 @@ returns-2 c =
     let f = c .before .before .before .before .before .before .before .before .before .before .pre .0 in
     let k = c .before .before .before .k .given .0 .0 in
     let b = a .block .now in
-    let n = needed _ _ (c .before .before .before .before .before .before .before .before .before .before .pre .1) (sym (c .before .before .before .k .given .1) ∙ c .before .before .before .before .before .measure .ensures) in
+    let n = needed _ _ (c .before .before .before .before .before .before .before .before .before .before .pre .1) (sym (c .before .before .before .k .given .1) ∙ c .before .before .before .before .before .measure .ensures .1 (f .indexed)) in
     in-block (a .table .now) (a .tlve-start) (a .option) (a .octets .now) (a .rows .now) b k (n .kept)
     (no-order (a .table .now) (a .tlve-start) (a .option) (a .octets .now) (a .rows .now) (take k b) (drop k b) (f .passes) (f .short) (f .room) k (c .before .before .before .k .given .0 .1 .0) n (omega (arith, length-take-le k b (omega arith))) (omega (arith, length-drop k b))) refl
 
@@ -50,8 +52,8 @@ fill-block-requires c κs =
     let f = c .before .before .before .before .before .before .before .before .before .before .before .before .pre .0 in
     let k = c .before .before .before .before .before .k .given .0 .0 in
     let b = a .block .now in
-    let n = needed _ _ (c .before .before .before .before .before .before .before .before .before .before .before .before .pre .1) (sym (c .before .before .before .before .before .k .given .1) ∙ c .before .before .before .before .before .before .before .measure .ensures) in
-    (ready (a .table .now) (a .tlve-start) (a .option) (a .octets .now) (a .rows .now) (take k b) (drop k b) (f .passes) (f .short) (f .room) k (c .before .before .before .before .before .k .given .0 .1 .0) n (omega (arith, length-take-le k b (omega arith))) (omega (arith, length-drop k b)) (a .index .now) (f .indexed), omega arith, n .decodes)
+    let n = needed _ _ (c .before .before .before .before .before .before .before .before .before .before .before .before .pre .1) (sym (c .before .before .before .before .before .k .given .1) ∙ c .before .before .before .before .before .before .before .measure .ensures .1 (f .indexed)) in
+    (f .indexed, f .passes, ready (a .table .now) (a .tlve-start) (a .option) (a .octets .now) (a .rows .now) (take k b) (drop k b) (f .passes) (f .short) (f .room) k (c .before .before .before .before .before .k .given .0 .1 .0) n (omega (arith, length-take-le k b (omega arith))) (omega (arith, length-drop k b)), omega arith, n .decodes)
 
 returns-3 : tie.Need-returns-3
 returns-3 c =
@@ -60,7 +62,7 @@ returns-3 c =
     let b = a .block .now in
     let k : ℕ = keptUse (a .table .now) (a .tlve-start) (a .option) (a .octets .now) (a .rows .now) b in
     in-block (a .table .now) (a .tlve-start) (a .option) (a .octets .now) (a .rows .now) b k refl
-    (cut-short (a .table .now) (a .tlve-start) (a .option) (a .octets .now) (a .rows .now) (take k b) (drop k b) (f .passes) (f .short) (f .room) (cut-is _ (sym (c .before .start .given .1) ∙ c .before .before .before .measure .ensures))) refl
+    (cut-short (a .table .now) (a .tlve-start) (a .option) (a .octets .now) (a .rows .now) (take k b) (drop k b) (f .passes) (f .short) (f .room) (cut-is _ (sym (c .before .start .given .1) ∙ c .before .before .before .measure .ensures .1 (f .indexed)))) refl
 
 same-length : tie.Need-same-length
 same-length c = search needs
@@ -74,7 +76,7 @@ returns-4 c =
     let f = c .before .before .before .before .before .before .before .before .before .before .before .before .before .before .before .before .before .pre .0 in
     let k = c .before .before .before .before .before .before .before .before .before .before .k .given .0 .0 in
     let b = a .block .now in
-    let n = needed _ _ (c .before .before .before .before .before .before .before .before .before .before .before .before .before .before .before .before .before .pre .1) (sym (c .before .before .before .before .before .before .before .before .before .before .k .given .1) ∙ c .before .before .before .before .before .before .before .before .before .before .before .before .measure .ensures) in
+    let n = needed _ _ (c .before .before .before .before .before .before .before .before .before .before .before .before .before .before .before .before .before .pre .1) (sym (c .before .before .before .before .before .before .before .before .before .before .k .given .1) ∙ c .before .before .before .before .before .before .before .before .before .before .before .before .measure .ensures .1 (f .indexed)) in
     in-block (a .table .now) (a .tlve-start) (a .option) (a .octets .now) (a .rows .now) b k (n .kept)
     (done (a .table .now) (a .tlve-start) (a .option) (a .octets .now) (a .rows .now) (take k b) (drop k b) (f .passes) (f .short) (f .room) k (c .before .before .before .before .before .before .before .before .before .before .k .given .0 .1 .0) n (omega (arith, length-take-le k b (omega arith))) (omega (arith, length-drop k b)) (c .before .before .before .before .fill-block .ensures)) refl
 

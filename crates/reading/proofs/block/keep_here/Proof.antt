@@ -7,7 +7,7 @@ use mathlib.Core.List.{[]}
 use lib.ListN.{length, take, drop, length-take, length-drop}
 use Rattle.definitions.specs.Logs.{keptEntry}
 use Rattle.definitions.proofs.Lists.{over-none}
-use Rattle.reading.specs.Fills.{keptOfFound, entryBy}
+use Rattle.filling.specs.Fills.{keptOfFound, entryBy}
 use borrow.Author.Needs.{needs}
 use Rattle.reading.proofs.block.keep_here.Statement.{statement}
 use Rattle.reading.proofs.block.keep_here.Tie as tie

@@ -9,8 +9,8 @@ use Rattle.definitions.specs.Rows.{rowsOf}
 use Rattle.definitions.specs.Elements.{elementsOf, parted}
 use Rattle.definitions.specs.Reading.{reading, placeRows}
 use Rattle.definitions.proofs.TableLaws.{few-places}
-use Rattle.reading.specs.Decodes.{lentOf}
-use Rattle.reading.proofs.Decoding.{long, no-rows, all-plain, moved}
+use Rattle.filling.specs.Decodes.{lentOf}
+use Rattle.noting.proofs.Decoding.{long, no-rows, all-plain, moved}
 use borrow.Author.Needs.{needs}
 use Rattle.reading.proofs.decode.decode_by_index.Statement.{statement}
 use Rattle.reading.proofs.decode.decode_by_index.Tie as tie
@@ -42,11 +42,8 @@ returns-3 c = let a = c .before .before .before .before .before .before .before 
 unchanged : (c : tie.Else3) → let a = c .before .before .before .before .before .before .before .before .before .before .before .before .before .args in (rows : List ℕ) → rows ≡ pick (c .before .before .before .plain .result) (over (placeRows (rowsOf (a .table .now)) (elementsOf (parted (rowsOf (a .table .now)) (a .tlve-start) (a .option) (a .octets .now)))) (a .rows .now)) (a .rows .now) → rows ≡ a .rows .now
 unchanged c rows e = e ∙ rw (c .if3 .left)
 
-decode-elements-requires : tie.Need-decode-elements-requires
-decode-elements-requires c κs =
-    let a = c .before .before .before .before .before .before .before .before .before .before .before .before .before .before .before .before .args in
-    let p = c .before .before .before .before .before .before .plain .ensures (a .tlve-start) (a .option) in
-    (record { indexed = c .before .before .before .before .before .before .before .before .before .before .before .before .before .before .before .before .pre .0; passes = c .before .before .before .before .before .before .before .before .before .before .before .before .before .before .before .before .pre .1; short = omega arith; room = rw (unchanged (c .before .before .before) _ (p .rows-are)) (omega (arith, c .before .before .before .before .before .before .before .before .before .places .ensures)) }, sym (p .is) ∙ c .before .before .before .if3 .left, omega (arith, c .before .before .before .before .before .before .before .before .before .places .ensures))
+decode-noted-requires : tie.Need-decode-noted-requires
+decode-noted-requires c κs = search needs
 
 same-length-2 : tie.Need-same-length-2
 same-length-2 c = search needs
@@ -61,7 +58,10 @@ returns-4 : tie.Need-returns-4
 returns-4 c =
     let a = c .before .before .before .before .before .before .before .before .before .before .before .before .before .before .before .before .before .before .before .before .before .before .before .args in
     let p = c .before .before .before .before .before .before .before .before .before .before .before .before .before .plain .ensures (a .tlve-start) (a .option) in
-    moved (ap (λ (rows : List ℕ). reading (a .table .now) (a .tlve-start) (a .option) (a .octets .now) (lentOf rows (a .kept .now) (a .order .now))) (sym (unchanged (c .before .before .before .before .before .before .before .before .before .before) _ (p .rows-are)))) (c .before .before .before .before .before .before .decode-elements .ensures)
+    let u = unchanged (c .before .before .before .before .before .before .before .before .before .before) _ (p .rows-are) in
+    let r = c .before .before .before .before .before .before .before .before .before .before .before .before .before .before .before .before .before .before .before .before .before .before .before .pre in
+    moved (ap (λ (rows : List ℕ). reading (a .table .now) (a .tlve-start) (a .option) (a .octets .now) (lentOf rows (a .kept .now) (a .order .now))) (sym u))
+    (c .before .before .before .before .before .before .decode-noted .ensures .1 (r .0) (r .1) (λ short room. sym (p .is) ∙ c .before .before .before .before .before .before .before .before .before .before .if3 .left))
 
 pub decode-by-index-spec : {M : Type 1} → statement M
 decode-by-index-spec =
@@ -74,7 +74,7 @@ decode-by-index-spec =
     plain-requires
     same-length
     returns-3
-    decode-elements-requires
+    decode-noted-requires
     same-length-2
     same-length-3
     same-length-4

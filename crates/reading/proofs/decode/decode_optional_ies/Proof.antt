@@ -6,8 +6,8 @@ use Rattle.definitions.specs.Rows.{rowsOf, firstBad}
 use Rattle.definitions.proofs.Readings.{read-bad}
 use Rattle.checks.specs.Answers.{checkedAs}
 use Rattle.checks.proofs.Laws.{passed-index}
-use Rattle.reading.specs.Decodes.{lentOf}
-use Rattle.reading.proofs.Decoding.{refused}
+use Rattle.filling.specs.Decodes.{lentOf}
+use Rattle.filling.proofs.Noting.{refused}
 use Rattle.rows.proofs.Indexed.{indexed}
 use borrow.Author.Needs.{needs}
 use Rattle.reading.proofs.decode.decode_optional_ies.Statement.{statement}

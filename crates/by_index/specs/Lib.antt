@@ -1,0 +1,2 @@
+-- What a table and any index say.
+pub mod ByIndex

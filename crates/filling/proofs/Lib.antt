@@ -1,0 +1,6 @@
+-- Laws that proofs cite.
+pub mod Filling
+pub mod ByIndex
+pub mod Noting
+pub mod Arrays
+pub mod SameAnswers

@@ -1,0 +1,3 @@
+-- Laws that proofs cite.
+pub mod Tallies
+pub mod Counting

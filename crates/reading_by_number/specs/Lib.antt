@@ -1,0 +1,1 @@
+-- No definitions of this crate's own.
