@@ -24,7 +24,7 @@ use Rattle.placing.proofs.Pieces.{held, held-long, put-not, none-not, long-not,
 -- ---- what is left behind an entry
 
 -- an entry of an element that no row took
-abbrev Aside : Placed → Type 0
+abbrev pub Aside : Placed → Type 0
 Aside (knownIei i) = ⊥
 Aside notKnown = Unit
 Aside (ignored r) = Unit

@@ -86,26 +86,6 @@ fn put_logged<'a>(
     Passed::To(at + took)
 }
 
-// The places from one on, up to another, each under its first IEI, where there may be none: most entries follow the one of the place before.
-fn put_lower<'a>(
-    table: &[u32],
-    rows: &[u32],
-    received: &'a [u8],
-    set: &'a [u8],
-    from: usize,
-    to: usize,
-    out: &mut [u8],
-    at: usize,
-) -> Passed
-    requires { ⌜ (from ≤ to) × (at ≤ length (now out)) ⌝ }
-    ensures { λ r. ⌜ PutBy (ranged (lentOf (now (table .entry)) (now (rows .entry)) (now (received .entry)) (now (set .entry))) from (to - from)) at (now (out .entry)) r (now (out .exit)) ⌝ }
-{
-    if from == to {
-        return Passed::To(at);
-    }
-    put_between(table, rows, received, set, from, to, out, at)
-}
-
 // The next kept element.
 fn pass_kept(kept: &[u8], pen: Pen, out: &mut [u8]) -> Went
     requires { ⌜ (pen .kept < length (now kept)) × (pen .at ≤ length (now out)) ⌝ }
@@ -143,6 +123,8 @@ fn pass_next(kept: &[u8], pen: Pen, out: &mut [u8]) -> Went
 }
 
 // A known entry: the places below its own that were not looked at, then its own under the logged IEI; nothing of an IEI without a place.
+// Most entries follow that of the place before. Whether there is a place between is asked right here: for a call all that is lent is laid
+// out, also for one that puts nothing, and a message with logs takes a tenth more.
 fn pass_known<'a>(
     table: &[u32],
     index: &[u8],
@@ -161,17 +143,23 @@ fn pass_known<'a>(
             if k < pen.place {
                 return Went::Not;
             }
-            match put_lower(table, rows, received, set, pen.place, k, out, pen.at) {
-                Passed::To(at) => {
-                    match put_logged(table, rows, received, set, k, iei, out, at) {
-                        Passed::To(next) => Went::To(Pen {
-                            at: next,
-                            kept: pen.kept,
-                            place: k + 1,
-                        }),
-                        Passed::Not => Went::Not,
+            let mut at = pen.at;
+            if pen.place < k {
+                match put_between(table, rows, received, set, pen.place, k, out, pen.at) {
+                    Passed::To(next) => {
+                        at = next;
+                    }
+                    Passed::Not => {
+                        return Went::Not;
                     }
                 }
+            }
+            match put_logged(table, rows, received, set, k, iei, out, at) {
+                Passed::To(next) => Went::To(Pen {
+                    at: next,
+                    kept: pen.kept,
+                    place: k + 1,
+                }),
                 Passed::Not => Went::Not,
             }
         }
@@ -196,8 +184,7 @@ fn pass_entry<'a>(
 {
     match entry {
         Placed::Known(iei) => pass_known(table, index, rows, received, set, iei, pen, out),
-        Placed::Unknown => pass_next(kept, pen, out),
-        Placed::Ignored(_) => pass_next(kept, pen, out),
+        _ => pass_next(kept, pen, out),
     }
 }
 
@@ -275,27 +262,27 @@ fn pass<'a>(
 {
     match pass_entries(table, index, rows, received, set, kept, order, out) {
         Went::To(pen) => {
-            match put_between(
-                table,
-                rows,
-                received,
-                set,
-                pen.place,
-                places(table),
-                out,
-                pen.at,
-            ) {
-                Passed::To(at) => pass_left(
-                    kept,
-                    Pen {
-                        at,
-                        kept: pen.kept,
-                        place: pen.place,
-                    },
-                    out,
-                ),
-                Passed::Not => Passed::Not,
+            let n = places(table);
+            let mut at = pen.at;
+            if pen.place < n {
+                match put_between(table, rows, received, set, pen.place, n, out, pen.at) {
+                    Passed::To(next) => {
+                        at = next;
+                    }
+                    Passed::Not => {
+                        return Passed::Not;
+                    }
+                }
             }
+            pass_left(
+                kept,
+                Pen {
+                    at,
+                    kept: pen.kept,
+                    place: pen.place,
+                },
+                out,
+            )
         }
         Went::Not => Passed::Not,
     }
