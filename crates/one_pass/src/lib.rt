@@ -23,12 +23,12 @@ use rows::index::place_of;
 use values::row::is_good;
 use values::row::row_at;
 use values::row::value_octets;
-ghost use Prim.Native.Nat.{_-_, _≤_, _<_};
+ghost use Prim.Native.Nat.{_≤_, _<_};
 ghost use lib.ListN.{length, drop};
 ghost use Rattle.definitions.specs.Rows.{rowsOf};
 ghost use Rattle.definitions.specs.Logs.{keptList};
 ghost use Rattle.order.specs.Order.{placedAs};
-ghost use Rattle.placing.specs.Pieces.{lentOf, pieceBy, ranged, PutBy, WroteBy, capacity};
+ghost use Rattle.placing.specs.Pieces.{lentOf, pieceBy, PutBy, WroteBy, capacity};
 ghost use Rattle.one_pass.specs.Passes.{concatBy, passedBy, shortBy, KeptBy, NextBy, KnownBy, EntryBy, EntriesBy};
 
 // The most octets of a kept log that is looked at.

@@ -3,20 +3,22 @@
 use Prim.Native.Nat.{ℕ, zero, suc, _+_, _-_, _≤_, _<_}
 use native.Mathlib.Omega.{arith}
 use native.Mathlib.Numerals.{add-one}
-use mathlib.Core.Path.{_≡_, refl, ap, _∙_}
+use mathlib.Core.Path.{_≡_, refl, ap, sym, _∙_}
 use mathlib.Core.List.{List, [], _∷_}
 use mathlib.Core.Bool.{Bool, true, false, _&&_, not}
 use mathlib.Core.Option.{Option, none, some}
-use borrow.Author.Tests.{le-leb, lt-leb}
+use borrow.Author.Tests.{le-leb, lt-leb, eqb-true, eqb-false}
 use lib.ListN.{length, take, drop}
 use lib.Seq.{take-nil, drop-nil}
 use lib.Dec.{leb, eqb}
+use denote.Ref.{RefT}
 use Rattle.definitions.specs.Basic.{pick, Answer, answer, refuse, refusal, unless, Used, content}
 use Rattle.definitions.specs.Rows.{Form, rowsOf, rowAt, form}
 use Rattle.definitions.specs.Values.{Octets, Value, valueAt, present, sourceOf, octetsAt, goodValue, firstFrom, fits, unfitAt, placeChecks, shownBy, showing}
 use Rattle.values.specs.Checks.{longWith}
 use Rattle.values.specs.Shows.{shownRow}
-use Rattle.values.specs.Rows.{sourcesOf}
+use Rattle.octets.specs.Places.{StandsAt}
+use Rattle.values.specs.Rows.{sourcesOf, PlacedAs}
 use Rattle.values.proofs.Checking.{refusal-append, long-none}
 
 -- ---- a row by its source
@@ -37,6 +39,13 @@ module _ (o : Octets) (v : Value) where
   pub good-set : v .source ≡ 2 → goodValue o v ≡ leb (v .start + v .size) (length (o .set))
   unfolding goodValue present sourceOf
   good-set e = rw e
+
+  pub good-present : 1 ≤ v .source → v .source ≤ 2 → goodValue o v ≡ leb (v .start + v .size) (pick (eqb (v .source) 1) (length (o .received)) (length (o .set)))
+  good-present h i = by (eqb (v .source) 1) refl
+    where
+      by : (b : Bool) → eqb (v .source) 1 ≡ b → goodValue o v ≡ leb (v .start + v .size) (pick b (length (o .received)) (length (o .set)))
+      by true e = good-received (eqb-true (v .source) 1 e)
+      by false e = good-set (let z = eqb-false (v .source) 1 e in omega arith)
 
 -- ---- every row in turn
 
@@ -76,6 +85,23 @@ module _ (o : Octets) (v : Value) where
       by zero h = absurd (omega arith)
       by (suc zero) h = absurd (omega arith)
       by (suc (suc n)) h = refl
+
+-- a part of the octets that the source of a present value names
+module _ (received set from part : RefT (List ℕ)) (v : Value) (there : 1 ≤ v .source) (named : (v .source ≡ 1 → from ≡ received) × ((v .source ≡ 1 → ⊥) → from ≡ set))
+    (octets : part .now ≡ take (v .size) (drop (v .start) (from .now))) (stands : v .start ≤ length (from .now) → StandsAt (v .start) from part) where
+  pub octets-named : (part .now ≡ octetsAt (sourcesOf (received .now) (set .now)) v) × PlacedAs received set v part
+  octets-named = by (eqb (v .source) 1) refl
+    where
+      by : (b : Bool) → eqb (v .source) 1 ≡ b → (part .now ≡ octetsAt (sourcesOf (received .now) (set .now)) v) × PlacedAs received set v part
+      by true e =
+          let h = eqb-true (v .source) 1 e in
+          let f = named .0 h in
+          ((rw f at octets) ∙ sym (octets-received (sourcesOf (received .now) (set .now)) v h), ((λ i. rw f at stands), (λ i. absurd (omega arith))))
+      by false e =
+          let h = eqb-false (v .source) 1 e in
+          let f = named .1 h in
+          let l : 2 ≤ v .source = omega arith in
+          ((rw f at octets) ∙ sym (octets-set (sourcesOf (received .now) (set .now)) v l), ((λ i. absurd (h i)), (λ i. rw f at stands)))
 
 -- ---- a row of a form
 

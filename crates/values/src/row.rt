@@ -4,6 +4,8 @@ use rows::columns::Form;
 ghost use mathlib.Core.Path.{_≡_};
 ghost use Prim.Native.Nat.{_<_};
 ghost use lib.ListN.{getD, drop};
+ghost use lib.Dec.{eqb};
+ghost use Rattle.definitions.specs.Basic.{pick};
 ghost use Rattle.definitions.specs.Values.{mandatoryWidth, valueIn, valueAt, octetsAt, goodValue, badRows, fits};
 ghost use Rattle.rows.specs.Forms.{formAs};
 ghost use Rattle.values.specs.Rows.{valueOf, widthOf, sourcesOf, PlacedAs};
@@ -99,6 +101,16 @@ fn row_of(rows: &[u32], with_iei: bool, k: usize) -> ValueRow
     mandatory_row_at(rows, k)
 }
 
+// Where the octets end that a present value's source names.
+fn limit_of(source: u32, received: usize, set: usize) -> usize
+    ensures { λ r. ⌜ r ≡ pick (eqb source 1) received set ⌝ }
+{
+    if source == 1 {
+        return received;
+    }
+    set
+}
+
 // Whether a row is well formed: a source of 0 to 2, a value that ends within its octets, an absent one all zeros.
 pub fn is_good(row: ValueRow, received: &[u8], set: &[u8]) -> bool
     ensures { λ r. ⌜ r ≡ goodValue (sourcesOf (now (received .entry)) (now (set .entry))) (valueOf row) ⌝ }
@@ -115,10 +127,7 @@ pub fn is_good(row: ValueRow, received: &[u8], set: &[u8]) -> bool
         return false;
     }
     let end = wide(row.start) + wide(row.len);
-    if row.source == 1 {
-        return end <= received.len();
-    }
-    end <= set.len()
+    end <= limit_of(row.source, received.len(), set.len())
 }
 
 fn wide(x: u32) -> usize
@@ -141,7 +150,18 @@ pub fn any_bad(rows: &[u32], with_iei: bool, n: usize, received: &[u8], set: &[u
     false
 }
 
-// The octets of a value: a part of the received or of the set octets, whichever its row names; none of an absent one.
+// The octets themselves.
+fn source_of<'a>(received: &'a [u8], set: &'a [u8], source: u32) -> &'a [u8]
+    ensures { λ r. ⌜ (source ≡ 1 → r ≡ received .entry) × ((source ≡ 1 → ⊥) → r ≡ set .entry) ⌝ }
+{
+    if source == 1 {
+        return received;
+    }
+    set
+}
+
+// The octets of a value: a part of the received or of the set octets, whichever its row names; none of an absent one. Whether they are all
+// there is asked as `is_good` asks it, so that behind that it is not asked again.
 pub fn value_octets<'a>(received: &'a [u8], set: &'a [u8], row: ValueRow) -> &'a [u8]
     ensures { λ r. ⌜ now r ≡ octetsAt (sourcesOf (now (received .entry)) (now (set .entry))) (valueOf row) ⌝ }
     ensures { λ r. ⌜ PlacedAs (received .entry) (set .entry) (valueOf row) r ⌝ }
@@ -152,10 +172,12 @@ pub fn value_octets<'a>(received: &'a [u8], set: &'a [u8], row: ValueRow) -> &'a
     if source == 0 {
         return part(received, 0, 0);
     }
-    if source == 1 {
-        return part(received, start, len);
+    let from = source_of(received, set, source);
+    let end = start + len;
+    if end <= from.len() {
+        return &from[start..end];
     }
-    part(set, start, len)
+    part(from, start, len)
 }
 
 // Whether octets fit a form: a half octet is one octet, from set octets of 0 to 15.

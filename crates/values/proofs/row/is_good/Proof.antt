@@ -1,10 +1,10 @@
 -- `is_good` is the rule of a row by its source.
--- Each way out names the source.
+-- Each way out names the source; of a present value the sources have one.
 use native.Mathlib.Omega.{arith}
 use mathlib.Core.Path.{sym}
 use borrow.Author.Tests.{eq-eqb, ne-eqb}
 use Rattle.values.specs.Rows.{sourcesOf, valueOf}
-use Rattle.values.proofs.Showing.{good-over, good-absent, good-received, good-set}
+use Rattle.values.proofs.Showing.{good-over, good-absent, good-present}
 use borrow.Author.Needs.{needs}
 use Rattle.values.proofs.row.is_good.Statement.{statement}
 use Rattle.values.proofs.row.is_good.Tie as tie
@@ -30,11 +30,11 @@ wide-requires-2 c κs = search needs
 add-end : tie.Need-add-end
 add-end c = search needs
 
-returns-5 : tie.Need-returns-5
-returns-5 c = let a = c .before .before .before .before .before .before .before .before .before .before .args in rw (c .before .before .before .wide .ensures .0, c .before .before .wide2 .ensures .0) (sym (good-received (sourcesOf (a .received .now) (a .set .now)) (valueOf (a .row)) (omega arith)))
+limit-of-requires : tie.Need-limit-of-requires
+limit-of-requires c κs = search needs
 
-returns-6 : tie.Need-returns-6
-returns-6 c = let a = c .before .before .before .before .before .before .before .before .before .before .args in rw (c .before .before .before .wide .ensures .0, c .before .before .wide2 .ensures .0) (sym (good-set (sourcesOf (a .received .now) (a .set .now)) (valueOf (a .row)) (omega arith)))
+returns-5 : tie.Need-returns-5
+returns-5 c = let a = c .before .before .before .before .before .before .before .before .before .args in rw (c .before .before .wide .ensures .0, c .before .wide2 .ensures .0, c .limit-of .ensures) (sym (good-present (sourcesOf (a .received .now) (a .set .now)) (valueOf (a .row)) (let z = c .before .before .before .if2 .left in omega arith) (omega (arith, c .before .before .before .before .before .if1 .left))))
 
 pub is-good-spec : {M : Type 1} → statement M
 is-good-spec =
@@ -47,5 +47,5 @@ is-good-spec =
     wide-requires
     wide-requires-2
     add-end
-    returns-5
-    returns-6)
+    limit-of-requires
+    returns-5)
