@@ -19,7 +19,7 @@ use Rattle.rows.proofs.Indexed as own
 use Rattle.by_index.specs.ByIndex.{rowBy, rowsBy}
 use Rattle.by_index.proofs.Rows.{some-place, no-place, row-at}
 
-iei-octet : (x : ℕ) → x < 256 → ieiOf x < 256
+pub iei-octet : (x : ℕ) → x < 256 → ieiOf x < 256
 unfolding ieiOf
 iei-octet x h = by (leb 128 x)
   where

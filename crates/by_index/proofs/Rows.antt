@@ -6,10 +6,10 @@ use mathlib.Core.Path.{_≡_, refl, ap, sym, _∙_}
 use mathlib.Core.List.{List, _∷_}
 use mathlib.Core.Bool.{Bool, true, false, _||_}
 use mathlib.Core.Option.{none, some}
-use borrow.Author.Tests.{eq-eqb, ne-eqb, eqb-true, eqb-false}
+use borrow.Author.Tests.{eq-eqb, ne-eqb, eqb-true, eqb-false, ltb-true, ltb-false}
 use lib.ListN.{getD}
 use lib.Seq.{take-length}
-use lib.Dec.{eqb}
+use lib.Dec.{eqb, ltb}
 use Rattle.definitions.specs.Basic.{pick, among}
 use Rattle.definitions.specs.Rows.{ieis, placeFrom, placeOf, rowAt}
 use Rattle.rows.specs.Numbers.{numbersAt}
@@ -88,6 +88,16 @@ module _ (table index : List ℕ) where
   pub no-place : (x : ℕ) → x < 256 → 128 ≤ getD index x 0 → placeOf (rowsBy table index) x ≡ none
   unfolding rowsBy placeOf
   no-place x h g = missed-from 0 128 x h (omega arith)
+
+  pub entry-is : (x k : ℕ) → x < 256 → placeOf (rowsBy table index) x ≡ some k → k ≡ getD index x 0
+  entry-is x k h e = by (ltb (getD index x 0) 128) refl
+    where
+      by : (b : Bool) → ltb (getD index x 0) 128 ≡ b → k ≡ getD index x 0
+      by true q = let z : some k ≡ some (getD index x 0) = sym e ∙ some-place x h (ltb-true (getD index x 0) 128 q) in cc
+      by false q =
+          let z : some k ≡ none = sym e ∙ no-place x h (ltb-false (getD index x 0) 128 q) in
+          let y : _≡_ {A = ℕ} 0 1 = cc in
+          absurd (omega arith)
 
   -- ---- the row of a place
 

@@ -1,17 +1,17 @@
 -- The rows of accepted elements by a table and any index: a row that the table has not takes none, so that its place is one of the
 -- table's; and entering by a row's numbers is entering by the row.
-use Prim.Native.Nat.{ℕ, zero, suc, _+_, _*_, _/_, _%_, _≤_, _<_}
+use Prim.Native.Nat.{ℕ, zero, suc, _*_, _/_, _%_, _≤_, _<_}
 use native.Mathlib.Omega.{arith}
 use mathlib.Core.Path.{_≡_, refl, ap, sym, _∙_}
-use mathlib.Core.List.{List, [], _∷_}
+use mathlib.Core.List.{List, _∷_}
 use mathlib.Core.Bool.{Bool, true, false, _&&_, false≢true}
 use mathlib.Core.Option.{Option, none, some}
 use borrow.Author.Tests.{ltb-true, ltb-false, le-ltb}
 use lib.ListN.{length, take}
 use lib.Seq.{length-take-le}
 use lib.Dec.{ltb, leb}
-use Rattle.definitions.specs.Basic.{pick, among, bit, receivable}
-use Rattle.definitions.specs.Rows.{Row, form, formOf, rowsOf, rowAt, ieis, placeFrom, placeOf}
+use Rattle.definitions.specs.Basic.{bit, receivable}
+use Rattle.definitions.specs.Rows.{Row, form, formOf, rowsOf, rowAt, placeOf}
 use Rattle.definitions.specs.Length.{header, whole}
 use Rattle.definitions.specs.Elements.{isAccepted, taken, takenBy, octetsOf, stranger, known}
 use Rattle.definitions.proofs.Steps.{strange, placed, Frames, whole-frames}
@@ -23,20 +23,11 @@ use Rattle.elements.specs.declared.element.Element.{Element as Found}
 use Rattle.by_index.specs.ByIndex.{rowBy, rowsFrom, rowsBy}
 use Rattle.by_index.proofs.Rows.{row-at}
 use Rattle.plain_reading.specs.Entered.{before, rowBy as enteredBy, rowEntered}
-use Rattle.plain_reading.proofs.Accepted.{judged-accepted}
+use Rattle.plain_reading.proofs.Accepted.{place-inside, judged-accepted}
 use Rattle.filling.specs.Fills.{RowFits, RowFitsBy, headSaid, SaidFits, SaidFitsBy, saidBy, saidEntered}
 use Rattle.filling.proofs.Filling.{Places}
 
 -- ---- a place is below 128
-
-from-inside : (j x k : ℕ) (t : List Row) → placeFrom j t x ≡ some k → k < j + length t
-unfolding placeFrom
-from-inside j x k [] e = let z : _≡_ {A = ℕ} 0 1 = cc in absurd (omega arith)
-from-inside j x k (r ∷ rs) e = by (among x (ieis r)) e (from-inside (suc j) x k rs)
-  where
-    by : (b : Bool) → pick b (some j) (placeFrom (suc j) rs x) ≡ some k → (placeFrom (suc j) rs x ≡ some k → k < suc j + length rs) → k < j + length (r ∷ rs)
-    by true q r = let z : j ≡ k = cc in omega arith
-    by false q r = omega (arith, r q)
 
 rows-long : (table index : List ℕ) (j n : ℕ) → length (rowsFrom table index j n) ≡ n
 unfolding rowsFrom
@@ -44,8 +35,8 @@ rows-long table index j zero = refl
 rows-long table index j (suc n) = ap suc (rows-long table index (suc j) n)
 
 pub below-most : (table index : List ℕ) (x k : ℕ) → placeOf (rowsBy table index) x ≡ some k → k < 128
-unfolding placeOf rowsBy
-below-most table index x k e = omega (arith, from-inside 0 x k (rowsFrom table index 0 128) e, rows-long table index 0 128)
+unfolding rowsBy
+below-most table index x k e = omega (arith, place-inside (rowsFrom table index 0 128) x k e, rows-long table index 0 128)
 
 -- ---- a row of zeros takes no element
 
@@ -68,7 +59,7 @@ module _ (table index : List ℕ) where
   unfolding rowBy numbersAt
   past-kinds k h = rw (le-ltb k (length table / 10) h)
 
-  takes-inside : (k x : ℕ) (xs : List ℕ) → taken (rowBy table index k) (whole (form (rowBy table index k)) (x ∷ xs)) (x ∷ xs) ≡ true → k < length table / 10
+  pub takes-inside : (k x : ℕ) (xs : List ℕ) → taken (rowBy table index k) (whole (form (rowBy table index k)) (x ∷ xs)) (x ∷ xs) ≡ true → k < length table / 10
   takes-inside k x xs e = by (ltb k (length table / 10)) refl
     where
       by : (b : Bool) → ltb k (length table / 10) ≡ b → k < length table / 10
@@ -102,7 +93,7 @@ module _ (table index : List ℕ) where
 
   -- ---- by a row's numbers
 
-  head-said : (k : ℕ) → k < 128 → before (rowsBy table index) k ≡ headSaid table k
+  pub head-said : (k : ℕ) → k < 128 → before (rowsBy table index) k ≡ headSaid table k
   unfolding form rowBy
   head-said k h = ap (λ (r : Row). header (form r)) (row-at table index k h)
 

@@ -15,17 +15,13 @@ use Rattle.definitions.specs.Reading.{Lent, Read, placeRows, readElements, read
 use Rattle.definitions.proofs.PlainLaws.{kept-none}
 use Rattle.definitions.proofs.Readings.{read-long, read-rows, read-cut, read-done}
 use Rattle.plain_reading.specs.Plains.{plainIn, Plainly}
+use Rattle.plain_reading.proofs.Copied.{plain-decodes}
 use Rattle.filling.specs.Decodes.{lentOf, Reads}
 use Rattle.filling.specs.declared.Decoded.{Decoded}
 use Rattle.filling.specs.declared.Room.{Room}
 use Rattle.filling.proofs.Noting.{refused}
 
 -- ---- a part of which the table says all
-
-plain-decodes : (t : List Row) (p : Parted) → plainIn t 0 p ≡ true → p ≡ elements (elementsOf p)
-unfolding elementsOf
-plain-decodes t (elements es) e = refl
-plain-decodes t (cutShort a x n m) e = absurd (false≢true e)
 
 plain-order : (t : List Row) (p : Parted) → plainIn t 0 p ≡ true → orderOf t (elementsOf p) ≡ []
 unfolding elementsOf orderOf

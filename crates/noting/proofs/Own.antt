@@ -3,30 +3,26 @@
 use Prim.Native.Nat.{ℕ, _*_, _≤_, _<_}
 use native.Mathlib.Omega.{arith}
 use mathlib.Core.Path.{_≡_, refl, ap, subst, sym, _∙_}
-use mathlib.Core.List.{List, _∷_}
+use mathlib.Core.List.{List}
 use mathlib.Core.Bool.{Bool, true, false}
 use mathlib.Core.Option.{none}
 use borrow.Author.Tests.{ltb-true, ltb-false}
-use lib.ListN.{length, getD, replicate}
+use lib.ListN.{length, getD}
 use lib.Dec.{ltb}
-use Rattle.definitions.specs.Basic.{over, mostOctets}
+use Rattle.definitions.specs.Basic.{mostOctets}
 use Rattle.definitions.specs.Rows.{Row, rowsOf, firstBad}
-use Rattle.definitions.specs.Elements.{Verdict, accepted, unknown, malformed, repeated, outOfSequence, Element, ieiAt, Met, stranger, known, Parted, elements, cutShort, parted}
+use Rattle.definitions.specs.Elements.{Element, Parted, elements, cutShort, parted}
 use Rattle.definitions.specs.Logs.{keptOf, entriesOf, orderOf}
-use Rattle.definitions.specs.Reading.{Lent, Read, placeRows, readElements, reading}
+use Rattle.definitions.specs.Reading.{Lent, Read, readElements, reading}
 use Rattle.definitions.proofs.Readings.{read-long, read-rows, read-cut, read-kept, read-order, read-done}
-use Rattle.definitions.proofs.Steps.{Stands, strange, placed, Reads, end, more, reads}
-use Rattle.elements.specs.Steps.{elementOf, placedFor}
 use Rattle.rows.specs.Indexed.{Indexed}
 use Rattle.by_index.specs.ByIndex.{rowsBy}
-use Rattle.by_index.proofs.Own.{form-same, parted-same}
-use Rattle.plain_reading.specs.Entered.{rowBy, rowEntered, enteredAll}
+use Rattle.by_index.proofs.Own.{parted-same}
 use Rattle.plain_reading.specs.Plains.{plainIn}
-use Rattle.plain_reading.proofs.Entered.{all-entered}
 use Rattle.filling.specs.Decodes.{lentOf, Reads as Answers}
 use Rattle.filling.specs.declared.Decoded.{Decoded}
 use Rattle.filling.specs.Noted.{notedElements, noted, Unplain}
-use Rattle.filling.proofs.ByIndex.{below-most}
+use Rattle.filling.proofs.Own.{rows-same}
 use Rattle.filling.proofs.Noting.{note-long, note-rows, note-cut, note-kept, note-order, note-done}
 
 -- the log of a part of which the table does not say all has an entry for each element
@@ -41,33 +37,13 @@ module _ (table index : List ℕ) (i : Indexed table index) where
   abbrev u : List Row
   u = rowsBy table index
 
-  row-same : {start : ℕ} {option : Bool} {m m′ : Met} {at : ℕ} {s : List ℕ} {e : Element} → Stands u start option m at s e m′ → (rows : List ℕ) → rowEntered u (elementOf e) rows ≡ rowEntered t (elementOf e) rows
-  unfolding rowEntered elementOf stranger known
-  row-same (strange p r) rows = refl
-  row-same {option = option} {m = m} {at = at} (placed {x = x} {xs = xs} k p) rows = by (known u option m at (x ∷ xs) k) (known u option m at (x ∷ xs) k .verdict)
-    where
-      by : (e : Element) (v : Verdict) → rowBy u k (e .at) (length (e .octets)) rows (placedFor (ieiAt e) v) ≡ rowBy t k (e .at) (length (e .octets)) rows (placedFor (ieiAt e) v)
-      by e accepted = rw (form-same table index i k (below-most table index _ k p))
-      by e unknown = refl
-      by e malformed = refl
-      by e repeated = refl
-      by e outOfSequence = refl
-
-  all-same : {start : ℕ} {option : Bool} {m : Met} {at : ℕ} {s : List ℕ} {es : List Element} → Reads u start option m at s es → (rows : List ℕ) → enteredAll u es rows ≡ enteredAll t es rows
-  unfolding enteredAll
-  all-same end rows = refl
-  all-same (more {e = e} {es = es} d r) rows = ap (enteredAll u es) (row-same d rows) ∙ all-same r (rowEntered t (elementOf e) rows)
-
   module _ (passes : firstBad t ≡ none) (start : ℕ) (option : Bool) (part : List ℕ) (octets : (j : ℕ) → getD part j 0 < 256) (l : Lent) where
     parts : parted u start option part ≡ parted t start option part
     parts = parted-same table index i start option part octets
 
-    rows-same : (es : List Element) → parted t start option part ≡ elements es → enteredAll u es (over (replicate (4 * length t) 0) (l .rows)) ≡ over (placeRows t es) (l .rows)
-    rows-same es e = all-same (reads u start option (parts ∙ e)) (over (replicate (4 * length t) 0) (l .rows)) ∙ all-entered t passes start option part es e (l .rows)
-
     left-same : (es : List Element) → parted t start option part ≡ elements es → entriesOf es ≡ orderOf t es → notedElements u (4 * length t) l es ≡ readElements t l es
     unfolding notedElements readElements
-    left-same es e q = rw (rows-same es e, q)
+    left-same es e q = rw (rows-same table index i start option part octets (l .rows) es e, q)
 
     pub own : Unplain t start option part (l .rows) → noted table index start option part l ≡ reading table start option part l
     own f = long (ltb mostOctets (length part)) refl

@@ -5,22 +5,24 @@ use mathlib.Core.Path.{_≡_, refl, ap, sym, _∙_}
 use mathlib.Core.List.{List}
 use mathlib.Core.Bool.{Bool, true, false}
 use mathlib.Core.Option.{Option, none, some}
+use mathlib.Core.Logic.{inl, inr}
 use lib.ListN.{length, getD, drop}
 use Rattle.definitions.specs.Rows.{Row, rowsOf, rowAt, form, formOf, ieiOf, firstIei}
 use Rattle.definitions.specs.Length.{header, whole}
 use Rattle.definitions.specs.Elements.{taken, takenBy, parted}
-use Rattle.rows.specs.Numbers.{rowSaid}
+use Rattle.rows.specs.Numbers.{numbersAt, rowSaid}
 use Rattle.real.specs.Real.{realOf}
-use Rattle.real.proofs.RealLaws.{real}
 use Rattle.said.specs.Said.{saidOfRow, saidOf}
 use Rattle.said.specs.declared.Said.{Said}
 use Rattle.plain_reading.proofs.Says.{indexOf, own-index, Says, strange, other, first, says}
 use Rattle.elements.specs.Steps.{fitOf}
 use Rattle.elements.specs.declared.element.Fit.{Fit}
+use Rattle.elements.specs.declared.element.Came.{Came}
+use Rattle.elements.proofs.Came.{Ways, came-here, row-same}
 use Rattle.plain_reading.specs.Entered.{before as headOf}
 use Rattle.plain_reading.specs.Plains.{plainRows}
 use Rattle.plain_reading.specs.ByNumber.{rowOfSaid}
-use Rattle.plain_reading.proofs.Lining.{Lining, Enters, none-strange, none-below, none-other, none-taken, enters}
+use Rattle.plain_reading.proofs.Lining.{Lining, Enters, s as at-state, Here, strangeHere, knownHere, none-strange, none-below, none-other, none-taken, enters}
 
 -- ---- an element fits by what is said of a row as it does by the row
 
@@ -71,13 +73,20 @@ module _ (number start : ℕ) (option : Bool) (part rows₀ : List ℕ) where
     abbrev fit : Fit
     fit = fitOf (rowSaid (rowOfSaid s iei)) left
 
+    -- how the element came is the step there
+    here : (c : Came) → Ways (realOf number) (indexOf number) (own-index number) start option part (at-state t start option part rows₀ l iei k) (l .line .low) inside (getD part at 0) iei k c → Here t start option part rows₀ l iei k c
+    here = came-here (realOf number) (indexOf number) (own-index number) start option part (at-state t start option part rows₀ l iei k) (l .line .low) inside (getD part at 0) iei k refl iei-is octet refl
+
+    known-here : (k ≡ 255 → ⊥) → Here t start option part rows₀ l iei k (knownHere t start option part rows₀ l iei k (rowAt t k))
+    known-here has = rw (row-same (realOf number) (own-index number .whole) k left) at (here (knownHere t start option part rows₀ l iei k (rowSaid (numbersAt (realOf number) k))) (inr (has, refl)))
+
     -- nothing is said
     pub none-unsaid : s .place ≡ 255 → none ≡ all
     none-unsaid e = by (saidOf number iei) (says number iei octet) s-is
       where
         by : (u : Said) → Says t iei k u → s ≡ u → none ≡ all
-        by _ (strange q) f = none-strange (realOf number) (indexOf number) (own-index number) (real number .passes) start option part rows₀ l inside iei k iei-is octet refl q
-        by _ (other has q) f = none-other (realOf number) (indexOf number) (own-index number) (real number .passes) start option part rows₀ l inside iei k iei-is octet refl has q
+        by _ (strange q) f = none-strange t start option part rows₀ l iei k (here (strangeHere t start option part rows₀ l iei k) (inl (q, refl)))
+        by _ (other has q) f = none-other t start option part rows₀ l iei k has (known-here has) q
         by _ (first has q) f = absurd (has (sym (ap (λ (u : Said). u .place) f) ∙ e))
 
     -- a row is
@@ -96,13 +105,13 @@ module _ (number start : ℕ) (option : Bool) (part rows₀ : List ℕ) where
       header-is = rw (← place-is) (rw (w .is) refl)
 
       pub none-lower : s .place < least → none ≡ all
-      none-lower h = none-below (realOf number) (indexOf number) (own-index number) (real number .passes) start option part rows₀ l inside iei k iei-is octet refl (w .has) (rw place-is h)
+      none-lower h = none-below t start option part rows₀ l iei k (w .has) (known-here (w .has)) (rw place-is h)
 
       module _ (h : least ≤ s .place) where
         pub none-untaken : fit .taken ≡ false → none ≡ all
-        none-untaken q = none-taken (realOf number) (indexOf number) (own-index number) (real number .passes) start option part rows₀ l inside iei k iei-is octet refl (w .has) (rw place-is h) (ap (λ (f : Fit). f .taken) (sym fit-is) ∙ q)
+        none-untaken q = none-taken t start option part rows₀ l iei k (w .has) (known-here (w .has)) (rw place-is h) (ap (λ (f : Fit). f .taken) (sym fit-is) ∙ q)
 
         pub enters-said : fit .taken ≡ true → Enters t start option part rows₀ at (s .place) rows (fit .len)
         enters-said q =
             rw (← place-is, fit-is)
-            (enters (realOf number) (indexOf number) (own-index number) (real number .passes) start option part rows₀ l inside iei k iei-is octet refl (w .has) (rw place-is h) (w .is-first) (ap (λ (f : Fit). f .taken) (sym fit-is) ∙ q))
+            (enters t start option part rows₀ l iei k (w .has) (known-here (w .has)) (rw place-is h) (w .is-first) (ap (λ (f : Fit). f .taken) (sym fit-is) ∙ q))

@@ -4,12 +4,12 @@ use Prim.Native.Nat.{ℕ, zero, suc, _*_, _≤_, min}
 use native.Mathlib.Omega.{arith}
 use mathlib.Core.Path.{_≡_, refl, ap, sym, _∙_}
 use mathlib.Core.List.{List, _∷_}
-use mathlib.Core.Bool.{Bool, true, false}
+use mathlib.Core.Bool.{Bool, true, false, false≢true}
 use mathlib.Core.Option.{none, some}
 use lib.ListN.{length, take, replicate}
 use lib.Seq.{take-append-seam}
 use Rattle.definitions.specs.Basic.{pick, over}
-use Rattle.definitions.specs.Rows.{Row, firstBad}
+use Rattle.definitions.specs.Rows.{Row}
 use Rattle.definitions.specs.Elements.{Element, Parted, elements, cutShort, elementsOf, parted}
 use Rattle.definitions.specs.Logs.{plainFrom}
 use Rattle.definitions.specs.Reading.{placeRows}
@@ -31,11 +31,42 @@ front-is a b m e = rw (← e) (take-append-seam a _)
 pub all-copied : (rows found : List ℕ) (n : ℕ) → n ≤ length rows → n ≤ length found → {rows′ : List ℕ} → rows′ ≡ over (take (min n (min (length rows) (length found))) found) rows → rows′ ≡ over (take n found) rows
 all-copied rows found n a b e = let m : min n (min (length rows) (length found)) ≡ n = omega arith in rw m at e
 
-module _ (t : List Row) (passes : firstBad t ≡ none) (start : ℕ) (option : Bool) (part : List ℕ) (w : ℕ) (fits : 4 * length t ≤ w) where
-  pub copied : (es : List Element) → parted t start option part ≡ elements es → take (4 * length t) (enteredAll t es (replicate w 0)) ≡ placeRows t es
+-- ---- what a pass says of a part
+
+pub plain-decodes : (t : List Row) (p : Parted) → plainIn t 0 p ≡ true → p ≡ elements (elementsOf p)
+unfolding elementsOf
+plain-decodes t (elements es) e = refl
+plain-decodes t (cutShort a x n m) e = absurd (false≢true e)
+
+pub record Told (t : List Row) (o : Parted) (rows found : List ℕ) : Type 0 where
+  pub is : true ≡ plainIn t 0 o
+  pub decodes : o ≡ elements (elementsOf o)
+  pub found-is : found ≡ enteredAll t (elementsOf o) rows
+
+pub told : (t : List Row) (o : Parted) (rows found : List ℕ) → some found ≡ plainRows t 0 o rows → Told t o rows found
+unfolding elementsOf
+told t (cutShort a x n m) rows found e = let z : _≡_ {A = ℕ} 0 1 = cc in absurd (omega arith)
+told t (elements es) rows found e = go (plainFrom t 0 es) refl e
+  where
+    go : (b : Bool) → plainFrom t 0 es ≡ b → some found ≡ pick b (some (enteredAll t es rows)) none → Told t (elements es) rows found
+    go true d g = let h : found ≡ enteredAll t es rows = cc in record { is = sym d; decodes = refl; found-is = h }
+    go false d g = let z : _≡_ {A = ℕ} 0 1 = cc in absurd (omega arith)
+
+pub untold : (t : List Row) (o : Parted) (rows : List ℕ) → none ≡ plainRows t 0 o rows → false ≡ plainIn t 0 o
+untold t (cutShort a x n m) rows e = refl
+untold t (elements es) rows e = go (plainFrom t 0 es) _ e
+  where
+    go : (b : Bool) (x : List ℕ) → none ≡ pick b (some x) none → false ≡ b
+    go true x g = let z : _≡_ {A = ℕ} 0 1 = cc in absurd (omega arith)
+    go false x g = refl
+
+-- ---- the rows of its places
+
+module _ (t : List Row) (start : ℕ) (option : Bool) (part : List ℕ) (w : ℕ) (fits : 4 * length t ≤ w) where
+  copied : (es : List Element) → parted t start option part ≡ elements es → take (4 * length t) (enteredAll t es (replicate w 0)) ≡ placeRows t es
   copied es e =
       ap (λ (x : List ℕ). take (4 * length t) (enteredAll t es x)) (sym (zeros-over (4 * length t) w fits))
-      ∙ ap (take (4 * length t)) (all-entered t passes start option part es e (replicate w 0))
+      ∙ ap (take (4 * length t)) (all-entered t start option part es e (replicate w 0))
       ∙ front-is (placeRows t es) (replicate w 0) (4 * length t) (rows-length t es)
 
   abbrev p : Parted
@@ -43,24 +74,16 @@ module _ (t : List Row) (passes : firstBad t ≡ none) (start : ℕ) (option : B
 
   module _ (n : ℕ) (n-is : n ≡ 4 * length t) (rows found : List ℕ) where
     pub plainly : some found ≡ plainRows t 0 p (replicate w 0) → {rows′ : List ℕ} → rows′ ≡ over (take n found) rows → Plainly t p true rows rows′
-    unfolding elementsOf
-    plainly e {rows′ = rows′} q = by p refl e
-      where
-        by : (o : Parted) → p ≡ o → some found ≡ plainRows t 0 o (replicate w 0) → Plainly t o true rows rows′
-        by (cutShort a x m q) c f = let z : _≡_ {A = ℕ} 0 1 = cc in absurd (omega arith)
-        by (elements es) c f = go (plainFrom t 0 es) refl f
-          where
-            go : (b : Bool) → plainFrom t 0 es ≡ b → some found ≡ pick b (some (enteredAll t es (replicate w 0))) none → Plainly t (elements es) true rows rows′
-            go true d g = let h : found ≡ enteredAll t es (replicate w 0) = cc in record { is = sym d; rows-are = q ∙ ap (λ (x : List ℕ). over x rows) (rw (n-is, h) (copied es c)) }
-            go false d g = let z : _≡_ {A = ℕ} 0 1 = cc in absurd (omega arith)
+    plainly e q =
+        let d : Told t p (replicate w 0) found = told t p (replicate w 0) found e in
+        record {
+          is = d .is;
+          rows-are =
+              q
+              ∙ ap (λ (m : ℕ). over (take m found) rows) n-is
+              ∙ ap (λ (x : List ℕ). over (take (4 * length t) x) rows) (d .found-is)
+              ∙ ap (λ (x : List ℕ). over x rows) (copied (elementsOf p) (d .decodes));
+        }
 
   pub not-plainly : (rows : List ℕ) → none ≡ plainRows t 0 p (replicate w 0) → Plainly t p false rows rows
-  not-plainly rows e = record { is = by p e; rows-are = refl }
-    where
-      go : (b : Bool) (x : List ℕ) → none ≡ pick b (some x) none → false ≡ b
-      go true x g = let z : _≡_ {A = ℕ} 0 1 = cc in absurd (omega arith)
-      go false x g = refl
-
-      by : (o : Parted) → none ≡ plainRows t 0 o (replicate w 0) → false ≡ plainIn t 0 o
-      by (elements es) f = go (plainFrom t 0 es) _ f
-      by (cutShort a x m q) f = refl
+  not-plainly rows e = record { is = untold t p (replicate w 0) e; rows-are = refl }

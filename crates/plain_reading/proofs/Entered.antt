@@ -5,13 +5,13 @@ use native.Mathlib.Omega.{arith}
 use mathlib.Core.Path.{_≡_, refl, ap, sym, _∙_}
 use mathlib.Core.List.{List, [], _∷_, _++_, append-assoc}
 use mathlib.Core.Bool.{Bool, true, false, _&&_, _||_, true≢false, false≢true}
-use mathlib.Core.Option.{Option, none, some, Option·getD}
+use mathlib.Core.Option.{Option, some, Option·getD}
 use borrow.Author.Tests.{eqb-true, eqb-false, eq-eqb, ne-eqb}
 use lib.ListN.{length, take, drop, replicate, length-replicate, length-append}
 use lib.Seq.{take-append-add, drop-append-add, drop-at}
 use lib.Dec.{eqb}
 use Rattle.definitions.specs.Basic.{pick, bit, over, overAt}
-use Rattle.definitions.specs.Rows.{Row, rowAt, form, firstBad}
+use Rattle.definitions.specs.Rows.{Row, rowAt, form}
 use Rattle.definitions.specs.Length.{header}
 use Rattle.definitions.specs.Elements.{Verdict, accepted, unknown, malformed, repeated, outOfSequence, isAccepted, isAt, Element, ieiAt, Met, meet, parted, elements}
 use Rattle.definitions.specs.Logs.{Placed, orderOf, orderList, orEmpty, ieiFor}
@@ -159,7 +159,7 @@ unfolding rowsFrom
 rows-long g th k zero = refl
 rows-long g th k (suc n) = length-append (g k) (rowsFrom g (suc k) n) ∙ rw (th k, rows-long g th (suc k) n) (omega arith)
 
-module _ (t : List Row) (passes : firstBad t ≡ none) (start : ℕ) (option : Bool) where
+module _ (t : List Row) (start : ℕ) (option : Bool) where
   -- a place that was met is not accepted again
   met-none : {m : Met} {at : ℕ} {s : List ℕ} {es : List Element} → Reads t start option m at s es → (j : ℕ) → bit j (m .places) ≡ true → ownRow t es j ≡ zeros
   unfolding ownRow
@@ -169,7 +169,7 @@ module _ (t : List Row) (passes : firstBad t ≡ none) (start : ℕ) (option : B
       by : (b : Bool) → isAccepted (e .verdict) ≡ b → ownRow t es j ≡ zeros → ownRow t (e ∷ es) j ≡ zeros
       by false a z = row-skip t e es j a ∙ z
       by true a z =
-          let c : Accepted t m m′ e = accepted-one d passes a in
+          let c : Accepted t m m′ e = accepted-one d a in
           row-other t e es j (c .has) (λ q. true≢false (sym h ∙ rw q (c .new))) ∙ z
 
   -- the rows that entering leaves: those of places met before as they were, the others of their elements
@@ -233,7 +233,7 @@ module _ (t : List Row) (passes : firstBad t ≡ none) (start : ℕ) (option : B
           same j false true x y = u j x ∙ sym (row-skip t e es j a ∙ met-none rest j y)
           same j false false x y = sym (row-skip t e es j a)
       by true a k =
-          let c : Accepted t m m′ e = accepted-one d passes a in
+          let c : Accepted t m m′ e = accepted-one d a in
           ap (enteredAll t es) (enter-accepted c a g th r (c .place) (c .has) (c .inside))
           ∙ k (updated g (c .place) (received t (ieiAt e) (c .place) e)) (four (c .place)) (unmet c) r
           ∙ ap (λ (x : List ℕ). x ++ r) (rows-same (Rows m′ (updated g (c .place) (received t (ieiAt e) (c .place) e)) es) (Rows m g (e ∷ es)) 0 (length t) (λ j l n. same c j))
@@ -266,14 +266,14 @@ rows-length t es =
     ap length (place-rows t ps es 0 (length t)) ∙ rows-long (placeRow t ps es) (row-four t ps es) 0 (length t)
 
 -- the whole part, from rows of zeros
-pub all-entered : (t : List Row) → firstBad t ≡ none → (start : ℕ) (option : Bool) (part : List ℕ) (es : List Element) → parted t start option part ≡ elements es
+pub all-entered : (t : List Row) (start : ℕ) (option : Bool) (part : List ℕ) (es : List Element) → parted t start option part ≡ elements es
     → (rows : List ℕ) → enteredAll t es (over (replicate (4 * length t) 0) rows) ≡ over (placeRows t es) rows
 unfolding over placeRows
-all-entered t passes start option part es e rows =
+all-entered t start option part es e rows =
     let n : ℕ = length t in
     let z : length (replicate {A = ℕ} (4 * n) 0) ≡ 4 * n = length-replicate (4 * n) 0 in
     let p : length (placeRowsFrom t ps es 0 n) ≡ 4 * n = ap length (place-rows t ps es 0 n) ∙ rows-long (placeRow t ps es) (row-four t ps es) 0 n in
-    rw (z, p, zero-rows 0 n, place-rows t ps es 0 n) (entered t passes start option (reads t start option e) (λ (j : ℕ). zeros) (λ j. refl) (λ j h. refl) (drop (4 * n) rows) ∙ ap (λ (x : List ℕ). x ++ drop (4 * n) rows) (rows-same _ _ 0 n (λ j a b. start-row j)))
+    rw (z, p, zero-rows 0 n, place-rows t ps es 0 n) (entered t start option (reads t start option e) (λ (j : ℕ). zeros) (λ j. refl) (λ j h. refl) (drop (4 * n) rows) ∙ ap (λ (x : List ℕ). x ++ drop (4 * n) rows) (rows-same _ _ 0 n (λ j a b. start-row j)))
   where
     ps : List Placed
     ps = orEmpty (orderList (orderOf t es))

@@ -7,27 +7,23 @@ use mathlib.Core.Path.{_≡_, refl, ap, sym, _∙_}
 use mathlib.Core.List.{List, [], _∷_}
 use mathlib.Core.Bool.{Bool, true, false, _&&_, true≢false}
 use mathlib.Core.Option.{Option, none, some, Option·getD}
-use mathlib.Core.Logic.{inl, inr}
 use borrow.Author.Tests.{ne-eqb, eq-eqb, le-ltb, le-leb, lt-leb}
 use lib.ListN.{length, getD, drop}
 use lib.Dec.{eqb, leb, ltb}
 use Rattle.definitions.specs.Basic.{pick, bit, overAt}
-use Rattle.definitions.specs.Rows.{Row, rowsOf, rowAt, ieiOf, firstIei, firstBad}
+use Rattle.definitions.specs.Rows.{Row, rowAt, firstIei}
 use Rattle.definitions.specs.Length.{unknownLength, missing, required}
 use Rattle.definitions.specs.Elements.{Verdict, accepted, unknown, malformed, repeated, outOfSequence, isAccepted, judged, Element as DefElement, ieiAt, Parted, elements, cutShort, before, Met, meet, stranger, known, parted, step}
 use Rattle.definitions.specs.Logs.{plainAt, plainFrom}
 use Rattle.definitions.proofs.BitLaws.{no-bit}
 use Rattle.definitions.proofs.Steps.{Stands, strange, placed}
 use Rattle.order.specs.declared.Placed.{Placed}
-use Rattle.rows.specs.Numbers.{numbersAt, rowSaid}
-use Rattle.rows.specs.Indexed.{Indexed}
 use Rattle.seen.specs.declared.Seen.{Seen}
 use Rattle.seen.specs.Seen.{setOf, seenOf, includingPlace}
 use Rattle.elements.specs.Steps.{placedFor, elementOf, stepOf, metOf, fitOf, cameKnown, cameStrange, stateAt, foundAt}
 use Rattle.elements.specs.declared.element.State.{State}
 use Rattle.elements.specs.declared.element.Element.{Element}
 use Rattle.elements.specs.declared.element.Came.{Came}
-use Rattle.elements.proofs.Came.{Ways, came-here, row-same}
 use Rattle.elements.proofs.Nexts.{from, from-start, Nexts, nexts, cuts, at-end}
 use Rattle.plain_reading.specs.Entered.{before as headOf, rowEntered, enteredAll}
 use Rattle.plain_reading.specs.Plains.{plainRows}
@@ -133,15 +129,12 @@ module _ (t : List Row) (start : ℕ) (option : Bool) (part : List ℕ) where
 
 -- ---- at a position
 
-module _ (table index : List ℕ) (i : Indexed table index) (passes : firstBad (rowsOf table) ≡ none) (start : ℕ) (option : Bool) (part rows₀ : List ℕ) where
-  abbrev t : List Row
-  t = rowsOf table
-
+module _ (t : List Row) (start : ℕ) (option : Bool) (part rows₀ : List ℕ) where
   abbrev whole : Option (List ℕ)
   whole = plainRows t 0 (parted t start option part) rows₀
 
-  module _ {at least : ℕ} {rows : List ℕ} (l : Lining t start option part rows₀ at least rows) (inside : at < length part) (iei k : ℕ) (iei-is : iei ≡ ieiOf (getD part at 0)) (octet : iei < 256) (k-is : k ≡ getD index iei 0) where
-    abbrev s : State
+  module _ {at least : ℕ} {rows : List ℕ} (l : Lining t start option part rows₀ at least rows) (iei k : ℕ) where
+    abbrev pub s : State
     s = record { at = at; seen = l .seen; highest = l .highest }
 
     abbrev left : List ℕ
@@ -150,8 +143,16 @@ module _ (table index : List ℕ) (i : Indexed table index) (passes : firstBad (
     abbrev x : ℕ
     x = getD part at 0
 
-    here-is : (c : Came) → Ways table index i start option part s (l .line .low) inside x iei k c → foundAt s x iei k (length left) c ≡ stepOf (step t start option (metOf s) at left)
-    here-is = came-here table index i start option part s (l .line .low) inside x iei k refl iei-is octet k-is
+    -- how the element came, under this IEI and place or 255, is the step there
+    abbrev pub Here : Came → Type 0
+    Here c = foundAt s x iei k (length left) c ≡ stepOf (step t start option (metOf s) at left)
+
+    -- the two ways: without a place, and with one by its row
+    abbrev pub strangeHere : Came
+    strangeHere = cameStrange x (missing start left) left (unknownLength start left)
+
+    abbrev pub knownHere : Row → Came
+    knownHere r = cameKnown r iei option (bit k (setOf (l .seen))) (ltb k (l .highest)) left
 
     ahead-is : (e : Element) (v : State) → Nexts t start option part s e v → ahead t least rows e (from t start option part v) (e .placed) ≡ whole
     unfolding elementOf
@@ -163,22 +164,22 @@ module _ (table index : List ℕ) (i : Indexed table index) (passes : firstBad (
         ∙ l .tells
 
     -- without a place
-    pub none-strange : k ≡ 255 → none ≡ whole
-    none-strange e = by (unknownLength start left) (here-is (cameStrange x (missing start left) left (unknownLength start left)) (inl (e, refl)))
+    pub none-strange : Here strangeHere → none ≡ whole
+    none-strange h = by (unknownLength start left) h
       where
-        by-next : (n : ℕ) → foundAt s x iei k (length left) (Came.Is n Placed.Unknown) ≡ stepOf (step t start option (metOf s) at left) → none ≡ whole
+        by-next : (n : ℕ) → Here (Came.Is n Placed.Unknown) → none ≡ whole
         by-next n q = ahead-is _ _ (nexts t start option part s (l .line .within) _ _ q)
 
-        by-cut : (b : Bool) → foundAt s x iei k (length left) (pick b (Came.Cut (missing start left)) (Came.Is (length left) Placed.Unknown)) ≡ stepOf (step t start option (metOf s) at left) → none ≡ whole
+        by-cut : (b : Bool) → Here (pick b (Came.Cut (missing start left)) (Came.Is (length left) Placed.Unknown)) → none ≡ whole
         by-cut true q = ap (λ (p : Parted). plainRows t least p rows) (sym (cuts t start option part s (l .line .within) q)) ∙ l .tells
         by-cut false q = by-next (length left) q
 
-        by : (o : Option ℕ) → foundAt s x iei k (length left) (cameStrange x (missing start left) left o) ≡ stepOf (step t start option (metOf s) at left) → none ≡ whole
+        by : (o : Option ℕ) → Here (cameStrange x (missing start left) left o) → none ≡ whole
         by (some n) q = by-next n q
         by none q = by-cut (required x) q
 
     -- with one, by its row
-    module _ (has : k ≡ 255 → ⊥) where
+    module _ (has : k ≡ 255 → ⊥) (known-here : Here (knownHere (rowAt t k))) where
       abbrev row : Row
       row = rowAt t k
 
@@ -196,10 +197,7 @@ module _ (table index : List ℕ) (i : Indexed table index) (passes : firstBad (
 
       next-is : Nexts t start option part s (element verdict) then
       unfolding stateAt
-      next-is =
-          nexts t start option part s (l .line .within) _ _
-          (rw (row-same table (i .whole) k left, ne-eqb k 255 has) at
-          (here-is (cameKnown (rowSaid (numbersAt table k)) iei option (bit k (setOf (l .seen))) (ltb k (l .highest)) left) (inr (has, refl))))
+      next-is = nexts t start option part s (l .line .within) _ _ (rw (ne-eqb k 255 has) at known-here)
 
       by-verdict : ((v : Verdict) → ahead t least rows (element v) (from t start option part then) (placedFor iei v) ≡ none) → none ≡ whole
       by-verdict f = sym (f verdict) ∙ ahead-is _ _ next-is
@@ -244,7 +242,7 @@ module _ (table index : List ℕ) (i : Indexed table index) (passes : firstBad (
             let good : verdict ≡ accepted = verdict-is ∙ rw q in
             let d : DefElement = next-is .element in
             let a : Accepted t (metOf s) (metOf then) d =
-            accepted-one (next-is .stands) passes (known-accepted (d .verdict) (ieiAt d) (ap (placedFor iei) (sym good) ∙ ap (λ (y : Element). y .placed) (next-is .is))) in
+            accepted-one (next-is .stands) (known-accepted (d .verdict) (ieiAt d) (ap (placedFor iei) (sym good) ∙ ap (λ (y : Element). y .placed) (next-is .is))) in
             let p : k ≡ a .place = ap (λ (y : Element). y .place) (next-is .is) ∙ ap (λ (o : Option ℕ). Option·getD o 255) (a .has) in
             let c : InLine t start option part then (k + 1) =
             record {

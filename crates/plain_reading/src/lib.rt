@@ -39,7 +39,7 @@ fn row_of(said: Said, iei: u8) -> Numbers
     }
 }
 
-// Four numbers of a row from a position on. As `set_row` of reading: it asks for room, so it is no function for another crate.
+// Four numbers of a row from a position on. As `set_row` of filling: it asks for room, so it is no function for another crate.
 fn set_row(rows: &mut [u32], at: usize, start: u32, len: u32, iei: u32)
     requires { ⌜ at + 4 ≤ length (now rows) ⌝ }
     ensures { λ r. ⌜ now (rows .exit) ≡ overAt at (1 ∷ start ∷ len ∷ iei ∷ []) (now (rows .entry)) ⌝ }

@@ -4,7 +4,7 @@ ghost use Prim.Native.Nat.{_≤_};
 use filling::Decoded;
 use octets::part;
 use part_answers::decoded_said;
-use reading::decode::decode_optional_ies;
+use reading::decode_optional_ies;
 use reading_by_number::decode_optional_ies_by;
 use recorded::LENT_TABLE;
 use recorded::after;

@@ -3,7 +3,6 @@
 use native.Mathlib.Omega.{arith}
 use Rattle.definitions.specs.Rows.{rowsOf}
 use Rattle.real.specs.Real.{realOf}
-use Rattle.real.proofs.RealLaws.{real}
 use Rattle.plain_reading.proofs.Copied.{all-copied, plainly, not-plainly}
 use borrow.Author.Needs.{needs}
 use Rattle.plain_reading.proofs.plain_few.Statement.{statement}
@@ -25,10 +24,10 @@ same-length : tie.Need-same-length
 same-length c = search needs
 
 returns : tie.Need-returns
-returns c start option = let a = c .before .before .before .before .before .before .before .before .before .before .before .args in let r = c .before .before .before .before .before .before .before .before .before .before .before .pre in plainly (rowsOf (realOf (a .number))) (real (a .number) .passes) start option (a .octets .now) 64 (omega (arith, r .1, r .2)) (a .n) (r .1) (a .rows .now) _ (rw (c .before .before .before .before .before .if1 .taken) at (c .before .before .before .before .before .before .before .plain-pass .ensures start option)) (all-copied (a .rows .now) _ (a .n) (r .3) (omega (arith, r .2, c .before .before .before .before .before .before .found2 .given)) (c .before .before .copy-rows .ensures))
+returns c start option = let a = c .before .before .before .before .before .before .before .before .before .before .before .args in let r = c .before .before .before .before .before .before .before .before .before .before .before .pre in plainly (rowsOf (realOf (a .number))) start option (a .octets .now) 64 (omega (arith, r .1, r .2)) (a .n) (r .1) (a .rows .now) _ (rw (c .before .before .before .before .before .if1 .taken) at (c .before .before .before .before .before .before .before .plain-pass .ensures start option)) (all-copied (a .rows .now) _ (a .n) (r .3) (omega (arith, r .2, c .before .before .before .before .before .before .found2 .given)) (c .before .before .copy-rows .ensures))
 
 returns-2 : tie.Need-returns-2
-returns-2 c start option = let a = c .before .before .before .before .before .before .args in let r = c .before .before .before .before .before .before .pre in not-plainly (rowsOf (realOf (a .number))) (real (a .number) .passes) start option (a .octets .now) 64 (omega (arith, r .1, r .2)) (a .rows .now) (rw (c .if1 .left) at (c .before .before .plain-pass .ensures start option))
+returns-2 c start option = let a = c .before .before .before .before .before .before .args in let r = c .before .before .before .before .before .before .pre in not-plainly (rowsOf (realOf (a .number))) start option (a .octets .now) 64 (omega (arith, r .1, r .2)) (a .rows .now) (rw (c .if1 .left) at (c .before .before .plain-pass .ensures start option))
 
 pub plain-few-spec : {M : Type 1} → statement M
 plain-few-spec =
