@@ -19,6 +19,7 @@ use order::Placed;
 use order::entry_len;
 use order::put_placed;
 use plain_by_table::plain_many;
+use plain_reading::clear_rows;
 use rows::columns::form_of;
 use rows::columns::numbers_at;
 use rows::columns::places;
@@ -27,8 +28,8 @@ ghost use mathlib.Core.Option.{none};
 ghost use mathlib.Core.Bool.{false};
 ghost use mathlib.Core.List.{[], _∷_};
 ghost use Prim.Native.Nat.{_+_, _*_, _≤_};
-ghost use lib.ListN.{length, take, drop, replicate};
-ghost use Rattle.definitions.specs.Basic.{over, overAt};
+ghost use lib.ListN.{length, take, drop};
+ghost use Rattle.definitions.specs.Basic.{overAt};
 ghost use Rattle.definitions.specs.Rows.{rowsOf, firstBad};
 ghost use Rattle.definitions.specs.Elements.{elements, elementsOf, parted};
 ghost use Rattle.definitions.specs.Block.{readingBlock, readingBlockBy};
@@ -41,18 +42,6 @@ ghost use Rattle.filling.specs.Fills.{RowFits, keptOfFound, outcome, filledFrom
 ghost use Rattle.block_reading.specs.Fitting.{Fits};
 ghost use Rattle.plain_reading.specs.Plains.{plainIn};
 ghost use Rattle.block_reading.specs.Blocks.{ReadsBlock};
-
-// No number in the first n.
-fn clear_rows(rows: &mut [u32], n: usize)
-    requires { ⌜ n ≤ length (now rows) ⌝ }
-    ensures { λ r. ⌜ now (rows .exit) ≡ over (replicate n 0) (now (rows .entry)) ⌝ }
-{
-    let mut i = 0;
-    while i < n {
-        rows[i] = 0;
-        i += 1;
-    }
-}
 
 // Four numbers of a row from a position on.
 fn set_row(rows: &mut [u32], at: usize, start: u32, len: u32, iei: u32)

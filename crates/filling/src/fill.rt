@@ -14,6 +14,7 @@ use measuring::Measured;
 use order::Placed;
 use order::entry_len;
 use order::put_placed;
+use plain_reading::clear_rows;
 use rows::columns::form_of;
 use rows::columns::numbers_at;
 use rows::columns::places;
@@ -23,25 +24,13 @@ ghost use mathlib.Core.Path.{_≡_};
 ghost use Prim.Native.Nat.{_+_, _*_, _≤_, _<_};
 ghost use lib.ListN.{length, replicate};
 ghost use mathlib.Core.List.{[], _∷_};
-ghost use Rattle.definitions.specs.Basic.{over, overAt};
+ghost use Rattle.definitions.specs.Basic.{overAt};
 ghost use Rattle.definitions.specs.Rows.{rowsOf};
 ghost use Rattle.definitions.specs.Logs.{keptEntry, orderEntry};
 ghost use Rattle.definitions.specs.Elements.{elements, elementsOf, parted};
 ghost use Rattle.order.specs.Order.{placedAs};
 ghost use Rattle.by_index.specs.ByIndex.{rowsBy};
 ghost use Rattle.filling.specs.Fills.{SaidFits, saidEntered, keptOfFound, outcome, filledFrom, ReadyBy, Written};
-
-// No number in the first n.
-pub(crate) fn clear_rows(rows: &mut [u32], n: usize)
-    requires { ⌜ n ≤ length (now rows) ⌝ }
-    ensures { λ r. ⌜ now (rows .exit) ≡ over (replicate n 0) (now (rows .entry)) ⌝ }
-{
-    let mut i = 0;
-    while i < n {
-        rows[i] = 0;
-        i += 1;
-    }
-}
 
 // No octet.
 pub(crate) fn clear_octets(log: &mut [u8])

@@ -3,12 +3,12 @@
 mod fill;
 
 use crate::fill::clear_octets;
-use crate::fill::clear_rows;
 use crate::fill::fill;
 use crate::fill::fill_elements;
 use measuring::Measured;
 use measuring::measure;
 use octets::MOST_OCTETS;
+use plain_reading::clear_rows;
 use rows::columns::places;
 ghost use lib.ListN.{length};
 ghost use Rattle.filling.specs.Decodes.{lentOf, Reads};

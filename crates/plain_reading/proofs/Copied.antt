@@ -31,6 +31,10 @@ front-is a b m e = rw (← e) (take-append-seam a _)
 pub all-copied : (rows found : List ℕ) (n : ℕ) → n ≤ length rows → n ≤ length found → {rows′ : List ℕ} → rows′ ≡ over (take (min n (min (length rows) (length found))) found) rows → rows′ ≡ over (take n found) rows
 all-copied rows found n a b e = let m : min n (min (length rows) (length found)) ≡ n = omega arith in rw m at e
 
+-- so many cleared, of as many as there are
+pub first-cleared : (rows : List ℕ) (n : ℕ) → n ≤ length rows → {rows′ : List ℕ} → rows′ ≡ over (replicate (min n (length rows)) 0) rows → rows′ ≡ over (replicate n 0) rows
+first-cleared rows n h e = let m : min n (length rows) ≡ n = omega arith in rw m at e
+
 -- ---- what a pass says of a part
 
 pub plain-decodes : (t : List Row) (p : Parted) → plainIn t 0 p ≡ true → p ≡ elements (elementsOf p)

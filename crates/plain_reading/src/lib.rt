@@ -15,7 +15,7 @@ ghost use mathlib.Core.List.{[], _∷_};
 ghost use mathlib.Core.Bool.{Bool};
 ghost use mathlib.Core.Option.{none, some};
 ghost use Prim.Native.Nat.{ℕ, _+_, _*_, _≤_, min};
-ghost use lib.ListN.{length, take};
+ghost use lib.ListN.{length, take, replicate};
 ghost use Rattle.definitions.specs.Basic.{pick, over, overAt};
 ghost use Rattle.definitions.specs.Rows.{rowsOf};
 ghost use Rattle.definitions.specs.Elements.{parted};
@@ -98,6 +98,18 @@ pub fn copy_rows(rows: &mut [u32], found: &[u32], n: usize)
     let mut i = 0;
     while i < m {
         rows[i] = found[i];
+        i += 1;
+    }
+}
+
+// No number in the first n, or in as many as there are.
+pub fn clear_rows(rows: &mut [u32], n: usize)
+    ensures { λ r. ⌜ now (rows .exit) ≡ over (replicate (min n (length (now (rows .entry)))) 0) (now (rows .entry)) ⌝ }
+{
+    let m = lower(n, rows.len());
+    let mut i = 0;
+    while i < m {
+        rows[i] = 0;
         i += 1;
     }
 }

@@ -4,6 +4,7 @@ use Prim.Native.Nat.{ℕ}
 use native.Mathlib.Omega.{arith}
 use mathlib.Core.Path.{_≡_, refl, ap, _∙_}
 use lib.ListN.{length, replicate}
+use Rattle.plain_reading.proofs.Copied.{first-cleared}
 use Rattle.filling.specs.Fills.{twice}
 use Rattle.filling.proofs.Arrays.{all-cleared, no-room, long, few-rows, short-kept, short-order, all-entered, all-cut}
 use borrow.Author.Needs.{needs}
@@ -71,7 +72,7 @@ returns-6 : tie.Need-returns-6
 returns-6 c =
     let a = c .before .before .before .before .before .before .before .before .before .before .before .before .before .before .before .before .before .before .before .before .before .before .before .before .before .before .before .before .before .before .before .before .before .before .before .args in
     all-cut (a .table .now) (a .index .now) (a .tlve-start) (a .option) (a .octets .now) (a .rows .now) (a .kept .now) (a .order .now) (omega arith) (omega (arith, c .before .before .before .before .before .before .before .before .before .before .before .before .before .before .before .before .before .before .before .before .before .before .before .before .before .before .before .before .places .ensures)) (omega arith) (omega arith) (rw (c .before .before .before .before .before .before .before .before .before .before .before .before .before .start .given .1) at (c .before .before .before .before .before .before .before .before .before .before .before .before .before .before .before .before .before .before .before .before .before .fill-elements .ensures))
-    (all-cleared (length (c .before .before .before .before .before .before .before .before .before .before .before .before .before .before .before .before .before .before .before .before .before .fill-elements .last .1 .1 .1 .1 .1 .0)) (c .before .before .before .before .before .before .before .before .before .before .before .before .before .before .before .before .before .before .before .before .before .fill-elements .last .1 .1 .1 .1 .1 .0) refl (c .before .before .before .before .before .before .before .before .before .before .clear-rows .ensures) ∙ zeros {m = length (c .before .before .before .before .before .before .before .before .before .before .before .before .before .before .before .before .before .before .before .before .before .fill-elements .last .1 .1 .1 .1 .1 .0)} {n = length (a .rows .now)} (omega arith)) (c .before .before .before .before .before .before .clear-octets .ensures ∙ zeros {m = length (c .before .before .before .before .before .before .before .before .before .before .before .before .before .before .before .before .before .before .before .before .before .fill-elements .last .1 .1 .1 .1 .1 .1 .0)} {n = length (a .kept .now)} (omega arith)) (c .before .before .clear-octets2 .ensures ∙ zeros {m = length (c .before .before .before .before .before .before .before .before .before .before .before .before .before .before .before .before .before .before .before .before .before .fill-elements .last .1 .1 .1 .1 .1 .1 .1 .0)} {n = length (a .order .now)} (omega arith))
+    (all-cleared (length (c .before .before .before .before .before .before .before .before .before .before .before .before .before .before .before .before .before .before .before .before .before .fill-elements .last .1 .1 .1 .1 .1 .0)) (c .before .before .before .before .before .before .before .before .before .before .before .before .before .before .before .before .before .before .before .before .before .fill-elements .last .1 .1 .1 .1 .1 .0) refl (first-cleared (c .before .before .before .before .before .before .before .before .before .before .before .before .before .before .before .before .before .before .before .before .before .fill-elements .last .1 .1 .1 .1 .1 .0) (length (c .before .before .before .before .before .before .before .before .before .before .before .before .before .before .before .before .before .before .before .before .before .fill-elements .last .1 .1 .1 .1 .1 .0)) (omega arith) (c .before .before .before .before .before .before .before .before .before .before .clear-rows .ensures)) ∙ zeros {m = length (c .before .before .before .before .before .before .before .before .before .before .before .before .before .before .before .before .before .before .before .before .before .fill-elements .last .1 .1 .1 .1 .1 .0)} {n = length (a .rows .now)} (omega arith)) (c .before .before .before .before .before .before .clear-octets .ensures ∙ zeros {m = length (c .before .before .before .before .before .before .before .before .before .before .before .before .before .before .before .before .before .before .before .before .before .fill-elements .last .1 .1 .1 .1 .1 .1 .0)} {n = length (a .kept .now)} (omega arith)) (c .before .before .clear-octets2 .ensures ∙ zeros {m = length (c .before .before .before .before .before .before .before .before .before .before .before .before .before .before .before .before .before .before .before .before .before .fill-elements .last .1 .1 .1 .1 .1 .1 .1 .0)} {n = length (a .order .now)} (omega arith))
 
 pub fill-over-spec : {M : Type 1} → statement M
 fill-over-spec =
