@@ -101,7 +101,7 @@ fn row_of(rows: &[u32], with_iei: bool, k: usize) -> ValueRow
     mandatory_row_at(rows, k)
 }
 
-// Where the octets end that a present value's source names.
+// How many octets there are of those that a present value's source names.
 fn limit_of(source: u32, received: usize, set: usize) -> usize
     ensures { λ r. ⌜ r ≡ pick (eqb source 1) received set ⌝ }
 {
@@ -150,7 +150,7 @@ pub fn any_bad(rows: &[u32], with_iei: bool, n: usize, received: &[u8], set: &[u
     false
 }
 
-// The octets themselves.
+// The octets that a present value's source names.
 fn source_of<'a>(received: &'a [u8], set: &'a [u8], source: u32) -> &'a [u8]
     ensures { λ r. ⌜ (source ≡ 1 → r ≡ received .entry) × ((source ≡ 1 → ⊥) → r ≡ set .entry) ⌝ }
 {
