@@ -209,16 +209,16 @@ fn block_by_index(
     requires { ⌜ Indexed (now table) (now index) × (firstBad (rowsOf (now table)) ≡ none) ⌝ }
     ensures { λ r. ⌜ ReadsBlock (readingBlock (now (table .entry)) «tlve_start» option (now (octets .entry)) (now (rows .entry)) (now (block .entry))) r (now (rows .exit)) (now (block .exit)) ⌝ }
 {
-    if plain_many(octets, table, index, rows) {
+    if plain_many(&*octets, &*table, &*index, rows) {
         return Decoded::Done(0, 0);
     }
     if octets.len() > MOST_OCTETS {
         return Decoded::TooLong;
     }
-    if rows.len() < 4 * places(table) {
+    if rows.len() < 4 * places(&*table) {
         return Decoded::NoRoom(Room::Rows);
     }
-    block_elements(octets, table, index, tlve_start, option, rows, block)
+    block_elements(&*octets, &*table, &*index, tlve_start, option, rows, block)
 }
 
 // By a lent table: the start number of the long form, and whether elements out of sequence are taken.

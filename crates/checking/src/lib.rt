@@ -108,11 +108,11 @@ fn check_by_index(part: &[u8], table: &[u32], index: &[u8; 256], tlve_start: u8)
     requires { ⌜ Ready (now table) (now index) (now part) ⌝ }
     ensures { λ r. ⌜ partCheckAs r ≡ checking (now (table .entry)) «tlve_start» (now (part .entry)) ⌝ }
 {
-    let at = first_offender(part, table, index);
+    let at = first_offender(&*part, &*table, &*index);
     if at >= part.len() {
         return PartCheck::Accepted;
     }
-    match find_cut(part, table, index, tlve_start, at) {
+    match find_cut(&*part, &*table, &*index, tlve_start, at) {
         Rest::Whole => PartCheck::Offends(at),
         Rest::Cut(start, x, left, missing) => PartCheck::CutShort(start, x, left, missing),
     }

@@ -177,20 +177,20 @@ fn check_rows(table: &[u32], index: &mut [u8; 256]) -> Checked
         if k >= MOST_PLACES {
             return Checked::BadRow(k);
         }
-        let row = numbers_at(table, k);
+        let row = numbers_at(&*table, k);
         if row.count == 1 {
             if !one_passes(row, index, mark_of(k)) {
                 return Checked::BadRow(k);
             }
             k += 1;
         } else {
-            if !more_pass(table, k, row, index) {
+            if !more_pass(&*table, k, row, index) {
                 return Checked::BadRow(k);
             }
             k += 1;
         }
     }
-    if places(table) > n {
+    if places(&*table) > n {
         return Checked::BadRow(n);
     }
     Checked::Passes
@@ -295,17 +295,17 @@ fn plain_passes(table: &[u32], row: usize, after: bool) -> bool
 pub fn check_mandatory_table(table: &[u32]) -> Checked
     ensures { λ r. ⌜ checkedAs r ≡ firstBadMandatory (mandatoryRowsOf (now (table .entry))) ⌝ }
 {
-    let n = mandatory_rows(table);
+    let n = mandatory_rows(&*table);
     let mut after = false;
     let mut k = 0;
     while k < n {
         if k >= MOST_MANDATORY {
             return Checked::BadRow(k);
         }
-        if !plain_passes(table, k, after) {
+        if !plain_passes(&*table, k, after) {
             return Checked::BadRow(k);
         }
-        after = mandatory_code_at(table, k) == 0;
+        after = mandatory_code_at(&*table, k) == 0;
         k += 1;
     }
     Checked::Passes

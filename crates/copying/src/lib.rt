@@ -120,7 +120,7 @@ pub fn put_slice(out: &mut [u8], octets: &[u8])
 {
     let n = out.len();
     if octets.len() <= n {
-        put_all(out, octets);
+        put_all(out, &*octets);
         return;
     }
     put_all(out, &octets[..n]);

@@ -276,14 +276,14 @@ pub fn element_step(
     }
     let x = part[at];
     let iei = iei_of(x);
-    let place = entry_of(index, iei);
+    let place = entry_of(&*index, iei);
     let left = &part[at..];
     let seen = state.seen;
     let highest = state.highest;
     let came = if place == NO_PLACE {
         came_unknown(left, x, tlve_start)
     } else {
-        let row = numbers_at(table, place);
+        let row = numbers_at(&*table, place);
         let again = seen_has(seen, place);
         came_known(left, row, iei, option, again, place < highest)
     };

@@ -152,14 +152,14 @@ pub(crate) fn fill_elements(
         }
         let x = octets[at];
         let iei = iei_of(x);
-        let entry = entry_of(index, iei);
+        let entry = entry_of(&*index, iei);
         let left = &octets[at..];
         let seen = state.seen;
         let highest = state.highest;
         let mut place = NO_PLACE;
         let came = if entry < 128 {
             place = entry;
-            let row = numbers_at(table, place);
+            let row = numbers_at(&*table, place);
             let again = seen_has(seen, place);
             came_known(left, row, iei, option, again, place < highest)
         } else {
@@ -174,8 +174,8 @@ pub(crate) fn fill_elements(
                     place,
                     placed,
                 };
-                enter_row(rows, table, e);
-                k = keep(octets, e, kept, k);
+                enter_row(rows, &*table, e);
+                k = keep(&*octets, e, kept, k);
                 o = note(placed, order, o);
                 state = after(state, place, at + len);
             }

@@ -175,7 +175,7 @@ fn next_entry(index: &[u8], order: &[u8], kept: &[u8], w: Walk) -> Step
     let at = w.order;
     match front_at(&order[at..]) {
         Front::Is(entry) => {
-            let judged = judge(index, kept, w, entry);
+            let judged = judge(&*index, &*kept, w, entry);
             let walk = Walk {
                 order: at + entry_len(entry),
                 kept: judged.kept,

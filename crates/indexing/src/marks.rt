@@ -65,13 +65,13 @@ pub fn mark_of(place: usize) -> u8
 pub fn enter_row(table: &[u32], place: usize, index: &mut [u8]) -> bool
     ensures { λ r. ⌜ (r ≡ enters (eqb (rowAt (rowsOf (now (table .entry))) place .code) 0) (markOf place) (ieis (rowAt (rowsOf (now (table .entry))) place)) (now (index .entry))) × (now (index .exit) ≡ enterRow place (rowAt (rowsOf (now (table .entry))) place) (now (index .entry))) ⌝ }
 {
-    let half = code_at(table, place) == 0;
+    let half = code_at(&*table, place) == 0;
     let mark = mark_of(place);
-    let n = iei_count(table, place);
+    let n = iei_count(&*table, place);
     let mut good = true;
     let mut j = 0;
     while j < n {
-        let iei = slot_at(table, place, j);
+        let iei = slot_at(&*table, place, j);
         good = both(good, enter_iei(index, half, iei, mark));
         j += 1;
     }

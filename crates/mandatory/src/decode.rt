@@ -177,13 +177,13 @@ pub(crate) fn decode_checked(
     if part.len() > MOST_OCTETS {
         return unread(Mandated::TooLong);
     }
-    if rows.len() < 3 * mandatory_rows(table) {
+    if rows.len() < 3 * mandatory_rows(&*table) {
         return unread(Mandated::NoRoom);
     }
-    let read = judge(part, table, lenient);
+    let read = judge(&*part, &*table, lenient);
     let answer = read.answer;
     if is_done(answer) {
-        fill(part, table, rows);
+        fill(&*part, &*table, rows);
         return read;
     }
     read

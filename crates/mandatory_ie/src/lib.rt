@@ -105,11 +105,11 @@ pub fn decode_mandatory_ie(left: &[u8], table: &[u32], row: usize) -> Found
         return Found::Missing;
     }
     let first = left[0];
-    match mandatory_form_at(table, row) {
-        MandatoryForm::LowHalf => half(table, row, 0, first % 16),
-        MandatoryForm::HighHalf => half(table, row, 1, first / 16),
-        MandatoryForm::Fixed(n) => behind(table, row, 0, n, left),
-        MandatoryForm::Lv => behind(table, row, 1, wide8(first), left),
-        MandatoryForm::LvE => behind_pair(table, row, left),
+    match mandatory_form_at(&*table, row) {
+        MandatoryForm::LowHalf => half(&*table, row, 0, first % 16),
+        MandatoryForm::HighHalf => half(&*table, row, 1, first / 16),
+        MandatoryForm::Fixed(n) => behind(&*table, row, 0, n, &*left),
+        MandatoryForm::Lv => behind(&*table, row, 1, wide8(first), &*left),
+        MandatoryForm::LvE => behind_pair(&*table, row, &*left),
     }
 }

@@ -176,13 +176,19 @@ pub(crate) fn encode_checked<'a>(
     requires { ⌜ firstBadMandatory (mandatoryRowsOf (now table)) ≡ none ⌝ }
     ensures { λ r. ⌜ Writes (mandatoryWriting (now (table .entry)) (now (rows .entry)) (now (received .entry)) (usedOf (now (set .entry)) «set_used») (now (output .entry))) r (now (output .exit)) ⌝ }
 {
-    if too_long(received, set, set_used, 0) {
+    if too_long(&*received, &*set, set_used, 0) {
         return MandatoryWrote::TooLong;
     }
-    if rows.len() < 3 * mandatory_rows(table) {
+    if rows.len() < 3 * mandatory_rows(&*table) {
         return MandatoryWrote::NoRoom;
     }
-    encode_octets(table, rows, received, part(set, 0, set_used), output)
+    encode_octets(
+        &*table,
+        &*rows,
+        &*received,
+        part(&*set, 0, set_used),
+        output,
+    )
 }
 
 // By a lent table: the lent rows, the received octets, and the set octets that are used.

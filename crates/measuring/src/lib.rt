@@ -82,14 +82,14 @@ pub fn measure(
         }
         let x = part[at];
         let iei = iei_of(x);
-        let entry = entry_of(index, iei);
+        let entry = entry_of(&*index, iei);
         let left = &part[at..];
         let seen = state.seen;
         let highest = state.highest;
         let mut place = NO_PLACE;
         let came = if entry < 128 {
             place = entry;
-            let row = numbers_at(table, place);
+            let row = numbers_at(&*table, place);
             let again = seen_has(seen, place);
             came_known(left, row, iei, option, again, place < highest)
         } else {

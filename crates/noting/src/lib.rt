@@ -37,7 +37,7 @@ pub fn decode_noted(
     if octets.len() > MOST_OCTETS {
         return Decoded::TooLong;
     }
-    let count = places(table);
+    let count = places(&*table);
     if rows.len() / 4 < count {
         return Decoded::NoRoom(Room::Rows);
     }
@@ -45,9 +45,9 @@ pub fn decode_noted(
     if octets.len() <= MOST_SHORTEST {
         if n <= MOST_SHORTEST {
             return decode_shortest(
-                octets,
-                table,
-                index,
+                &*octets,
+                &*table,
+                &*index,
                 tlve_start,
                 option,
                 n,
@@ -60,9 +60,9 @@ pub fn decode_noted(
     if octets.len() <= MOST_SHORT {
         if n <= MOST_ROWS {
             return decode_short(
-                octets,
-                table,
-                index,
+                &*octets,
+                &*table,
+                &*index,
                 tlve_start,
                 option,
                 n,
@@ -72,5 +72,14 @@ pub fn decode_noted(
             );
         }
     }
-    fill_measured(octets, table, index, tlve_start, option, rows, kept, order)
+    fill_measured(
+        &*octets,
+        &*table,
+        &*index,
+        tlve_start,
+        option,
+        rows,
+        kept,
+        order,
+    )
 }

@@ -260,12 +260,30 @@ fn pass<'a>(
 ) -> Passed
     ensures { λ r. ⌜ PutBy (passedBy (lentOf (now (table .entry)) (now (rows .entry)) (now (received .entry)) (now (set .entry))) (now (index .entry)) (now (order .entry)) (now (kept .entry))) 0 (now (out .entry)) r (now (out .exit)) ⌝ }
 {
-    match pass_entries(table, index, rows, received, set, kept, order, out) {
+    match pass_entries(
+        &*table,
+        &*index,
+        &*rows,
+        &*received,
+        &*set,
+        &*kept,
+        &*order,
+        out,
+    ) {
         Went::To(pen) => {
-            let n = places(table);
+            let n = places(&*table);
             let mut at = pen.at;
             if pen.place < n {
-                match put_between(table, rows, received, set, pen.place, n, out, pen.at) {
+                match put_between(
+                    &*table,
+                    &*rows,
+                    &*received,
+                    &*set,
+                    pen.place,
+                    n,
+                    out,
+                    pen.at,
+                ) {
                     Passed::To(next) => {
                         at = next;
                     }
@@ -275,7 +293,7 @@ fn pass<'a>(
                 }
             }
             pass_left(
-                kept,
+                &*kept,
                 Pen {
                     at,
                     kept: pen.kept,

@@ -85,7 +85,7 @@ pub fn put_between<'a>(
     let mut at = start;
     let mut k = from;
     while k < to {
-        match put_first(table, rows, received, set, k, out, at) {
+        match put_first(&*table, &*rows, &*received, &*set, k, out, at) {
             Passed::To(next) => {
                 at = next;
                 k += 1;

@@ -46,14 +46,14 @@ fn plain_pass(octets: &[u8], table: &[u32], index: &[u8; 256], found: &mut [u32]
     let mut least = 0;
     while at < octets.len() {
         let iei = iei_of(octets[at]);
-        let place = entry_of(index, iei);
+        let place = entry_of(&*index, iei);
         if place >= 128 {
             return false;
         }
         if place < least {
             return false;
         }
-        let row = numbers_at(table, place);
+        let row = numbers_at(&*table, place);
         if (iei as u32) != row.first {
             return false;
         }

@@ -122,7 +122,7 @@ fn put_all_by<'a>(
     let mut at = 0;
     let mut k = 0;
     while k < n {
-        match put_first_by(number, rows, received, set, k, out, at) {
+        match put_first_by(number, &*rows, &*received, &*set, k, out, at) {
             Passed::To(next) => {
                 at = next;
                 k += 1;

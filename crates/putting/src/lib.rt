@@ -94,9 +94,9 @@ pub fn put_ie(out: &mut [u8], form: Form, source: u32, iei: u8, value: &[u8]) ->
     ensures { λ r. ⌜ PutIf (puts (formAs form) source iei (now (value .entry)) (now (out .entry))) (encoded (formAs form) iei (now (value .entry))) (now (out .entry)) r (now (out .exit)) ⌝ }
 {
     match form {
-        Form::Half => put_half(out, source, iei, value),
-        Form::Fixed(n) => put_fixed(out, n, iei, value),
-        Form::Tlv => put_tlv(out, iei, value),
-        Form::TlvE => put_tlve(out, iei, value),
+        Form::Half => put_half(out, source, iei, &*value),
+        Form::Fixed(n) => put_fixed(out, n, iei, &*value),
+        Form::Tlv => put_tlv(out, iei, &*value),
+        Form::TlvE => put_tlve(out, iei, &*value),
     }
 }

@@ -108,9 +108,9 @@ pub fn check_place(
 ) -> PlaceCheck
     ensures { λ r. ⌜ placeCheckAs r ≡ refusal (placeChecks (rowsOf (now (table .entry))) (longWith (now (received .entry)) (usedOf (now (set .entry)) used) 0) (sourcesOf (now (received .entry)) (content (usedOf (now (set .entry)) used))) (now (rows .entry)) place) ⌝ }
 {
-    match check_room(table, rows, received, set, used, 0, false) {
+    match check_room(&*table, &*rows, &*received, &*set, used, 0, false) {
         PlaceCheck::Passes => {
-            if bad_place(table, rows, received, part(set, 0, used), place) {
+            if bad_place(&*table, &*rows, &*received, part(&*set, 0, used), place) {
                 return PlaceCheck::Malformed;
             }
             PlaceCheck::Passes

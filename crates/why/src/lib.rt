@@ -179,7 +179,7 @@ fn why_by_index(
     if octets.len() > MOST_OCTETS {
         return Why::TooLong;
     }
-    walk(octets, table, index, tlve_start, option, number)
+    walk(&*octets, &*table, &*index, tlve_start, option, number)
 }
 
 // Why the element of a number, from 0, came as it did, by a lent table.

@@ -209,23 +209,23 @@ fn encode_by_index<'a>(
     if received.len() > MOST_OCTETS {
         return Encoded::TooLong;
     }
-    if too_long(set, set_used, MOST_OCTETS) {
+    if too_long(&*set, set_used, MOST_OCTETS) {
         return Encoded::TooLong;
     }
-    if too_long(order, order_used, MOST_LOG) {
+    if too_long(&*order, order_used, MOST_LOG) {
         return Encoded::TooLong;
     }
-    if too_long(kept, kept_used, MOST_LOG) {
+    if too_long(&*kept, kept_used, MOST_LOG) {
         return Encoded::TooLong;
     }
-    if rows.len() < 4 * places(table) {
+    if rows.len() < 4 * places(&*table) {
         return Encoded::NoRows;
     }
     encode_used(
-        table,
-        index,
-        rows,
-        received,
+        &*table,
+        &*index,
+        &*rows,
+        &*received,
         &set[..set_used],
         &kept[..kept_used],
         &order[..order_used],

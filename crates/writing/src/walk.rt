@@ -119,7 +119,7 @@ fn put_added<'a>(
     let mut next = at;
     let mut k = from;
     while k < to {
-        next = put_first(table, rows, received, set, added, k, output, next);
+        next = put_first(&*table, &*rows, &*received, &*set, added, k, output, next);
         k += 1;
     }
     next

@@ -38,11 +38,11 @@ entry-len-requires c κs = search needs
 front : (c : tie.After-known-told) → orderFront (drop (c .before .before .before .before .before .before .before .before .args .w .order) (c .before .before .before .before .before .before .before .before .args .order .now)) ≡ some (placedAs (c .before .entry .given .0 .0))
 front c = sym (ap frontAs (sym (c .before .entry .given .1)) ∙ rw to-end at (c .before .before .before .front-at .ensures))
 
-add-t16 : tie.Need-add-t16
-add-t16 c = let s = order-split (c .before .before .before .before .before .before .before .before .before .before .args .order .now) (c .before .before .before .before .before .before .before .before .before .before .args .w .order) (c .before .before .before .before .before .before .before .before .before .before .pre .1) (front (c .before .before)) in omega (arith, s .within, c .entry-len .ensures)
+add-t20 : tie.Need-add-t20
+add-t20 c = let s = order-split (c .before .before .before .before .before .before .before .before .before .before .args .order .now) (c .before .before .before .before .before .before .before .before .before .before .args .w .order) (c .before .before .before .before .before .before .before .before .before .before .pre .1) (front (c .before .before)) in omega (arith, s .within, c .entry-len .ensures)
 
-add-t17 : tie.Need-add-t17
-add-t17 c = search needs
+add-t21 : tie.Need-add-t21
+add-t21 c = search needs
 
 enum-told : tie.Need-enum-told
 enum-told c = search needs
@@ -67,8 +67,8 @@ next-entry-spec =
     enum-known-entry
     judge-requires
     entry-len-requires
-    add-t16
-    add-t17
+    add-t20
+    add-t21
     enum-told
     returns
     returns-2)
