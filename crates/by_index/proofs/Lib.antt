@@ -1,4 +1,3 @@
 -- Laws that proofs cite.
 pub mod Rows
-pub mod Came
 pub mod Own

@@ -58,7 +58,7 @@ module _ (table index : List ℕ) (i : Indexed table index) where
   unfolding known
   known-same option m at s k h = rw (form-same k h, taken-same k h (whole (form (rowAt t k)) s) s)
 
-  step-same : (start : ℕ) (option : Bool) (m : Met) (at : ℕ) (s : List ℕ) → ((j : ℕ) → getD s j 0 < 256) → step u start option m at s ≡ step t start option m at s
+  pub step-same : (start : ℕ) (option : Bool) (m : Met) (at : ℕ) (s : List ℕ) → ((j : ℕ) → getD s j 0 < 256) → step u start option m at s ≡ step t start option m at s
   unfolding step placeStep
   step-same start option m at [] h = refl
   step-same start option m at (x ∷ xs) h = rw (place-same (ieiOf x) o) (by (placeOf t (ieiOf x)) refl)

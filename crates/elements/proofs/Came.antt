@@ -19,7 +19,7 @@ use Rattle.definitions.proofs.Steps.{Frames, whole-frames, front-octets, front-
 use Rattle.order.specs.declared.Placed.{Placed}
 use Rattle.rows.specs.Numbers.{numbersAt, rowSaid, Whole}
 use Rattle.seen.specs.Seen.{setOf, seenOf, includingPlace}
-use Rattle.elements.specs.Steps.{elementOf, stateOf, stepOf, metOf, fitOf, cameKnown, cameStrange, cameBy, stateAt, foundAt}
+use Rattle.elements.specs.Steps.{elementOf, stateOf, stepOf, metOf, fitOf, cameKnown, cameStrange, stateAt, foundAt}
 use Rattle.rows.specs.Indexed.{Indexed}
 use Rattle.elements.specs.declared.element.State.{State}
 use Rattle.elements.specs.declared.element.Came.{Came}
@@ -96,38 +96,6 @@ strange-found start s low left x = by (unknownLength start left) refl
     by : (o : Option ℕ) → unknownLength start left ≡ o → Strange start s low left x o
     by (some n) e = let f = unknown-fits start left e in strange-there start s low left x n (f .0) (f .1)
     by none e = strange-cut start s low left x
-
--- an element is within what is left, whatever the index
-fit-within : (r : Row) (left : List ℕ) → fitOf r left .len ≤ length left
-unfolding fitOf octetsOf
-fit-within r left = by (whole (form r) left)
-  where
-    by : (o : Option ℕ) → length (octetsOf o left) ≤ length left
-    by none = omega arith
-    by (some n) = simp length-take (omega arith)
-
-pub came-within : (table : List ℕ) (start : ℕ) (option : Bool) (s : State) (left : List ℕ) (x iei k : ℕ) {c : Came} {n : ℕ} {p : Placed}
-    → c ≡ cameBy table start option s left x iei k → c ≡ Came.Is n p → n ≤ length left
-came-within table start option s left x iei k {n = n} {p = p} e q = by (eqb k 255) (sym q ∙ e)
-  where
-    size : Came → ℕ
-    size (Came.Is m r) = m
-    size (Came.Cut m) = 0
-
-    strange : (o : Option ℕ) → unknownLength start left ≡ o → size (cameStrange x (missing start left) left o) ≤ length left
-    strange (some m) u = unknown-fits start left u .1
-    strange none u = cut (required x)
-      where
-        cut : (b : Bool) → size (pick b (Came.Cut (missing start left)) (Came.Is (length left) Placed.Unknown)) ≤ length left
-        cut true = omega arith
-        cut false = omega arith
-
-    by : (b : Bool) → Came.Is n p ≡ pick b (cameStrange x (missing start left) left (unknownLength start left)) (cameKnown (rowSaid (numbersAt table k)) iei option (bit k (setOf (s .seen))) (ltb k (s .highest)) left)
-        → n ≤ length left
-    by true z = let l = strange (unknownLength start left) refl in omega (arith, ap size z, l)
-    by false z =
-        let y : n ≡ fitOf (rowSaid (numbersAt table k)) left .len = ap size z in
-        omega (arith, fit-within (rowSaid (numbersAt table k)) left)
 
 -- ---- at a state's position
 

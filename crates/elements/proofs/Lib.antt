@@ -1,7 +1,10 @@
 -- Laws that proofs cite.
 pub mod Frames
 pub mod Came
+pub mod CameBy
 pub mod Steps
 pub mod Nexts
+pub mod Stepping
+pub mod OneStep
 pub mod Walks
 pub mod Iterated

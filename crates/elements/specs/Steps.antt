@@ -73,17 +73,6 @@ foundAt s x iei k left (Came.Cut m) = Step.Cut (s .at) x left m
 
 -- ---- by a table and any index
 
--- how an element came, by its first octet, its IEI and the entry that an index has for it
-abbrev pub cameBy : List ℕ → ℕ → Bool → State → List ℕ → ℕ → ℕ → ℕ → Came
-cameBy table start option s left x iei k =
-    pick (eqb k 255) (cameStrange x (missing start left) left (unknownLength start left))
-    (cameKnown (rowSaid (numbersAt table k)) iei option (bit k (setOf (s .seen))) (ltb k (s .highest)) left)
-
--- what stands at a state's position; by the index of a table that passes its check it is the definition's step, and by another it only
--- says which answer there is
-unfoldable pub stepBy : List ℕ → List ℕ → ℕ → Bool → List ℕ → State → Step
-stepBy table index start option part s =
-    let left : List ℕ = drop (s .at) part in
-    let x : ℕ = getD part (s .at) 0 in
-    let k : ℕ = getD index (ieiOf x) 0 in
-    pick (ltb (s .at) (length part)) (foundAt s x (ieiOf x) k (length left) (cameBy table start option s left x (ieiOf x) k)) Step.End
+-- the place that an index's entry is, or 255
+unfoldable pub placeAt : ℕ → ℕ
+placeAt e = pick (ltb e 128) e 255

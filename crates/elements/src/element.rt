@@ -1,4 +1,6 @@
 // One element at a time: how long it is, whether its row takes it, and its verdict.
+use crate::walk::Stepped;
+use crate::walk::steps;
 use length::Length;
 use length::UnknownKind;
 use length::UnknownLength;
@@ -11,9 +13,7 @@ use order::Placed;
 use rows::columns::Form;
 use rows::columns::Numbers;
 use rows::columns::form_of;
-use rows::columns::numbers_at;
 use seen::Seen;
-use seen::seen_has;
 use seen::seen_with;
 ghost use mathlib.Core.Path.{_≡_};
 ghost use mathlib.Core.Option.{some};
@@ -26,8 +26,9 @@ ghost use Rattle.definitions.specs.Elements.{takenBy, judged, step};
 ghost use Rattle.length.specs.Answers.{lengthOf};
 ghost use Rattle.rows.specs.Forms.{formAs};
 ghost use Rattle.rows.specs.Numbers.{rowSaid};
-ghost use Rattle.elements.specs.Steps.{placedFor, fitOf, cameKnown, cameStrange, stateAt, stepOf, stepBy, metOf};
+ghost use Rattle.elements.specs.Steps.{placedFor, fitOf, cameKnown, cameStrange, stateAt, placeAt, stepOf, metOf};
 ghost use Rattle.rows.specs.Indexed.{Indexed};
+ghost use Rattle.by_index.specs.ByIndex.{rowsBy};
 
 // No place: an IEI that no row lists.
 pub const NO_PLACE: usize = 255;
@@ -242,6 +243,17 @@ pub fn entry_of(index: &[u8; 256], iei: u8) -> usize
     wide(index[wide(iei)])
 }
 
+// The same, where an entry from 128 on is no place.
+fn place_by(index: &[u8; 256], iei: u8) -> usize
+    ensures { λ r. ⌜ r ≡ placeAt (getD (now (index .entry)) iei 0) ⌝ }
+{
+    let entry = entry_of(&*index, iei);
+    if entry < 128 {
+        return entry;
+    }
+    NO_PLACE
+}
+
 // Where reading is behind an element of a place or NO_PLACE that ends at a position.
 pub fn after(state: State, place: usize, at: usize) -> State
     ensures { λ r. ⌜ r ≡ stateAt state place at ⌝ }
@@ -267,37 +279,29 @@ pub fn element_step(
     option: bool,
     state: State,
 ) -> Step
-    ensures { λ r. ⌜ r ≡ stepBy (now (table .entry)) (now (index .entry)) «tlve_start» option (now (part .entry)) state ⌝ }
+    ensures { λ r. ⌜ r ≡ stepOf (step (rowsBy (now (table .entry)) (now (index .entry))) «tlve_start» option (metOf state) (state .at) (drop (state .at) (now (part .entry)))) ⌝ }
     ensures { λ r. ⌜ (Indexed (now (table .entry)) (now (index .entry)) → r ≡ stepOf (step (rowsOf (now (table .entry))) «tlve_start» option (metOf state) (state .at) (drop (state .at) (now (part .entry))))) ⌝ }
 {
     let at = state.at;
     if at >= part.len() {
         return Step::End;
     }
-    let x = part[at];
-    let iei = iei_of(x);
-    let place = entry_of(&*index, iei);
-    let left = &part[at..];
-    let seen = state.seen;
-    let highest = state.highest;
-    let came = if place == NO_PLACE {
-        came_unknown(left, x, tlve_start)
-    } else {
-        let row = numbers_at(&*table, place);
-        let again = seen_has(seen, place);
-        came_known(left, row, iei, option, again, place < highest)
-    };
-    match came {
-        Came::Is(len, placed) => Step::Next(
-            Element {
-                start: at,
-                len,
-                iei,
-                place,
-                placed,
-            },
-            after(state, place, at + len),
-        ),
-        Came::Cut(missing) => Step::Cut(at, x, left.len(), missing),
+    match steps(&*part, &*table, &*index, tlve_start, option, state, 1) {
+        Stepped::To(w) => {
+            let next = w.state;
+            let placed = w.placed;
+            let iei = iei_of(part[at]);
+            Step::Next(
+                Element {
+                    start: at,
+                    len: next.at - at,
+                    iei,
+                    place: place_by(&*index, iei),
+                    placed,
+                },
+                next,
+            )
+        }
+        Stepped::Cut(start, x, left, missing) => Step::Cut(start, x, left, missing),
     }
 }

@@ -1,3 +1,2 @@
 -- Laws that proofs cite.
 pub mod Tallies
-pub mod Counting

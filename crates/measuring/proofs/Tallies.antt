@@ -1,19 +1,27 @@
--- What a part needs by its first element and what is behind it, as the code adds it up.
--- By the element's verdict; sums are regrouped.
-use Prim.Native.Nat.{ℕ, _+_, _*_, _≤_}
+-- What a part needs by its first element and what is behind it, as the walk adds it up; and so what a walk over all of it says.
+-- By the element's verdict; sums are regrouped. The walk by induction on how many elements are left at most.
+use Prim.Native.Nat.{ℕ, zero, suc, _+_, _≤_}
 use native.Mathlib.Omega.{arith}
-use mathlib.Core.Path.{_≡_, refl}
+use mathlib.Core.Path.{_≡_, refl, ap, sym, _∙_}
 use mathlib.Core.List.{List, [], _∷_, _++_}
+use mathlib.Core.Bool.{Bool}
 use mathlib.Core.Option.{Option}
-use lib.ListN.{length, length-append}
-use Rattle.definitions.specs.Elements.{Verdict, accepted, unknown, malformed, repeated, outOfSequence, Element, ieiAt, isAccepted, Parted, elements, cutShort, before}
+use lib.ListN.{length, drop, length-append}
+use Rattle.definitions.specs.Rows.{Row}
+use Rattle.definitions.specs.Elements.{step, Verdict, accepted, unknown, malformed, repeated, outOfSequence, Element, ieiAt, isAccepted, Parted, elements, cutShort, before}
 use Rattle.definitions.specs.Logs.{leb128, keptEntry, keptOf, placedOf, orderEntry, entriesOf}
 use Rattle.definitions.proofs.Logs.{entry-length}
-use Rattle.definitions.proofs.LogLaws.{leb-room}
-use Rattle.elements.specs.Steps.{elementOf, placedFor}
-use Rattle.measuring.specs.Measures.{withAside, tallied, measuredFrom, measured, noTally}
+use Rattle.elements.specs.Steps.{elementOf, placedFor, stepOf, metOf}
+use Rattle.elements.specs.Walked.{noTally, withAside, tallied, onward, onStep, stepped}
+use Rattle.measuring.specs.Measures.{measuredFrom, measured}
 use Rattle.order.specs.declared.Placed.{Placed}
-use Rattle.measuring.specs.declared.Tally.{Tally}
+use Rattle.elements.specs.declared.element.State.{State}
+use Rattle.elements.specs.declared.element.Step.{Step}
+use Rattle.elements.specs.declared.element.Element as numbers
+use Rattle.elements.specs.declared.walk.Tally.{Tally}
+use Rattle.elements.specs.declared.walk.Walk.{Walk}
+use Rattle.elements.specs.declared.walk.Stepped.{Stepped}
+use Rattle.elements.proofs.Nexts.{from, Nexts, nexts, ends, cuts, at-end}
 use Rattle.measuring.specs.declared.Measured.{Measured}
 
 needs : {a b c d : ℕ} → a ≡ b → c ≡ d → Measured.Needs a c ≡ Measured.Needs b d
@@ -40,17 +48,6 @@ unfolding before elementOf
 tally-before c e (elements es) = same c (e .at) (e .octets) es (e .place) (e .verdict)
 tally-before c e (cutShort a x n m) = refl
 
--- each log needs at most twice the octets
-pub record Room (c : Tally) (len : ℕ) (p : Placed) : Type 0 where
-  pub kept : tallied c len p .kept ≤ c .kept + 2 * len
-  pub order : tallied c len p .order ≤ c .order + 2 * len
-
-pub tally-room : (c : Tally) (len : ℕ) (p : Placed) → 1 ≤ len → Room c len p
-unfolding withAside
-tally-room c len (Placed.Known iei) h = record { kept = omega arith; order = omega arith }
-tally-room c len Placed.Unknown h = record { kept = omega (arith, leb-room len h); order = omega arith }
-tally-room c len (Placed.Ignored r) h = record { kept = omega (arith, leb-room len h); order = omega arith }
-
 -- nothing more is needed at the end
 pub needs-none : (c : Tally) → Measured.Needs (c .kept) (c .order) ≡ measuredFrom c (elements [])
 unfolding keptOf entriesOf
@@ -60,3 +57,28 @@ needs-none c = needs (omega arith) (omega arith)
 pub none-before : (p : Parted) → measuredFrom noTally p ≡ measured p
 none-before (elements es) = needs (omega arith) (omega arith)
 none-before (cutShort a x n m) = refl
+
+-- ---- a walk over the part
+
+-- what it says
+abbrev pub walkNeeds : Stepped → Measured
+walkNeeds (Stepped.To w) = Measured.Needs (w .needs .kept) (w .needs .order)
+walkNeeds (Stepped.Cut a x n m) = Measured.Cut a x n m
+
+module _ (t : List Row) (start : ℕ) (option : Bool) (part : List ℕ) where
+  -- of as many elements as there are octets left, which are all of them
+  pub walk-needs : (n : ℕ) (w : Walk) → w .state .at ≤ length part → length part ≤ w .state .at + n → walkNeeds (stepped t start option part n w) ≡ measuredFrom (w .needs) (from t start option part (w .state))
+  unfolding stepped onStep
+  walk-needs zero w h g = needs-none (w .needs) ∙ ap (measuredFrom (w .needs)) (sym (at-end t start option part (w .state) h (omega arith)))
+  walk-needs (suc n) w h g = by (walk-needs n) (stepOf (step t start option (metOf (w .state)) (w .state .at) (drop (w .state .at) part))) refl
+    where
+      by : ((u : Walk) → u .state .at ≤ length part → length part ≤ u .state .at + n → walkNeeds (stepped t start option part n u) ≡ measuredFrom (u .needs) (from t start option part (u .state)))
+          → (o : Step) → o ≡ stepOf (step t start option (metOf (w .state)) (w .state .at) (drop (w .state .at) part)) → walkNeeds (onStep o w (stepped t start option part n)) ≡ measuredFrom (w .needs) (from t start option part (w .state))
+      by rest Step.End e = needs-none (w .needs) ∙ ap (measuredFrom (w .needs)) (sym (ends t start option part (w .state) h e))
+      by rest (Step.Cut a x l m) e = ap (measuredFrom (w .needs)) (sym (cuts t start option part (w .state) h e))
+      by rest (Step.Next d v) e =
+          let x : Nexts t start option part (w .state) d v = nexts t start option part (w .state) h d v e in
+          rest (onward w d v) (omega (arith, x .further, x .within)) (omega (arith, x .further, x .some-octet))
+          ∙ ap (λ (y : numbers.Element). measuredFrom (tallied (w .needs) (y .len) (y .placed)) (from t start option part v)) (x .is)
+          ∙ tally-before (w .needs) (x .element) (from t start option part v)
+          ∙ ap (measuredFrom (w .needs)) (sym (x .parts))

@@ -2,10 +2,10 @@
 -- A count takes no more octets than it counts, so no sum wraps.
 use native.Mathlib.Omega.{arith}
 use Rattle.definitions.proofs.LogLaws.{leb-room}
-use Rattle.measuring.specs.Measures.{withAside}
+use Rattle.elements.specs.Walked.{withAside}
 use borrow.Author.Needs.{needs}
-use Rattle.measuring.proofs.aside.Statement.{statement}
-use Rattle.measuring.proofs.aside.Tie as tie
+use Rattle.elements.proofs.walk.aside.Statement.{statement}
+use Rattle.elements.proofs.walk.aside.Tie as tie
 
 count-len-requires : tie.Need-count-len-requires
 count-len-requires c κs = search needs

@@ -1,10 +1,10 @@
 -- `with_element` counts an element by how it came.
 -- Each arm names it.
 use mathlib.Core.Path.{ap, sym, _∙_}
-use Rattle.measuring.specs.Measures.{tallied}
+use Rattle.elements.specs.Walked.{tallied}
 use borrow.Author.Needs.{needs}
-use Rattle.measuring.proofs.with_element.Statement.{statement}
-use Rattle.measuring.proofs.with_element.Tie as tie
+use Rattle.elements.proofs.walk.with_element.Statement.{statement}
+use Rattle.elements.proofs.walk.with_element.Tie as tie
 
 enum-told : tie.Need-enum-told
 enum-told c = search needs
