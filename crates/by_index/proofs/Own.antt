@@ -1,6 +1,6 @@
 -- By a table's own index the rows that table and index say read a part as the table does: an IEI has the same place, and a place a row
 -- of the same form that takes the same. By induction on the octets that are left.
-use Prim.Native.Nat.{ℕ, zero, suc, _+_, _/_, _*_, _<_}
+use Prim.Native.Nat.{ℕ, zero, suc, _+_, _<_}
 use native.Mathlib.Omega.{arith}
 use mathlib.Core.Path.{_≡_, refl, ap, sym, _∙_}
 use mathlib.Core.List.{List, [], _∷_}
@@ -9,23 +9,15 @@ use mathlib.Core.Option.{Option, none, some}
 use borrow.Author.Tests.{eqb-true, eqb-false}
 use lib.ListN.{length, getD, drop}
 use lib.Seq.{getD-drop}
-use lib.Dec.{eqb, leb}
-use Rattle.definitions.specs.Basic.{pick}
+use lib.Dec.{eqb}
 use Rattle.definitions.specs.Rows.{Row, form, rowsOf, rowAt, ieiOf, placeOf}
 use Rattle.definitions.specs.Length.{whole}
 use Rattle.definitions.specs.Elements.{Element, Met, nothingMet, meet, taken, takenBy, known, Step, next, cut, ended, step, placeStep, before, stepThen, partedF, parted}
+use Rattle.definitions.proofs.TableLaws.{iei-octet}
 use Rattle.rows.specs.Indexed.{Indexed}
 use Rattle.rows.proofs.Indexed as own
 use Rattle.by_index.specs.ByIndex.{rowBy, rowsBy}
 use Rattle.by_index.proofs.Rows.{some-place, no-place, row-at}
-
-pub iei-octet : (x : ℕ) → x < 256 → ieiOf x < 256
-unfolding ieiOf
-iei-octet x h = by (leb 128 x)
-  where
-    by : (b : Bool) → pick b (x / 16 * 16) x < 256
-    by true = omega arith
-    by false = h
 
 module _ (table index : List ℕ) (i : Indexed table index) where
   abbrev t : List Row
@@ -58,14 +50,11 @@ module _ (table index : List ℕ) (i : Indexed table index) where
   unfolding known
   known-same option m at s k h = rw (form-same k h, taken-same k h (whole (form (rowAt t k)) s) s)
 
-  pub step-same : (start : ℕ) (option : Bool) (m : Met) (at : ℕ) (s : List ℕ) → ((j : ℕ) → getD s j 0 < 256) → step u start option m at s ≡ step t start option m at s
+  pub step-same : (start : ℕ) (option : Bool) (m : Met) (at : ℕ) (s : List ℕ) → ieiOf (getD s 0 0) < 256 → step u start option m at s ≡ step t start option m at s
   unfolding step placeStep
   step-same start option m at [] h = refl
-  step-same start option m at (x ∷ xs) h = rw (place-same (ieiOf x) o) (by (placeOf t (ieiOf x)) refl)
+  step-same start option m at (x ∷ xs) h = rw (place-same (ieiOf x) h) (by (placeOf t (ieiOf x)) refl)
     where
-      o : ieiOf x < 256
-      o = iei-octet x (h 0)
-
       by : (p : Option ℕ) → placeOf t (ieiOf x) ≡ p → placeStep u start option m at x (x ∷ xs) p ≡ placeStep t start option m at x (x ∷ xs) p
       by none e = refl
       by (some k) e = ap (λ (d : Element). next d (meet k m)) (known-same option m at (x ∷ xs) k (i .below (ieiOf x) k e))
@@ -73,7 +62,7 @@ module _ (table index : List ℕ) (i : Indexed table index) where
   parted-from : (start : ℕ) (option : Bool) (f : ℕ) (m : Met) (at : ℕ) (s : List ℕ) → ((j : ℕ) → getD s j 0 < 256) → partedF u start option f m at s ≡ partedF t start option f m at s
   unfolding partedF stepThen
   parted-from start option zero m at s h = refl
-  parted-from start option (suc f) m at s h = rw (step-same start option m at s h) (by (step t start option m at s) (parted-from start option f))
+  parted-from start option (suc f) m at s h = rw (step-same start option m at s (iei-octet (getD s 0 0) (h 0))) (by (step t start option m at s) (parted-from start option f))
     where
       by : (o : Step) → ((m : Met) (at : ℕ) (s : List ℕ) → ((j : ℕ) → getD s j 0 < 256) → partedF u start option f m at s ≡ partedF t start option f m at s)
           → stepThen o (λ m′ n. partedF u start option f m′ (at + n) (drop n s)) ≡ stepThen o (λ m′ n. partedF t start option f m′ (at + n) (drop n s))

@@ -1,5 +1,5 @@
--- How an element came, as a step of the definition: the index says its place, its row or the unknown rule the rest.
--- Its first octet is the first of what is left; the two numbers of the places met lose nothing.
+-- How an element came, as a step of the definition by the rows that a table and any index say: the index says its place, its row or the unknown
+-- rule the rest. Its first octet is the first of what is left; the two numbers of the places met lose nothing.
 use Prim.Native.Nat.{ℕ, _^_, _≤_, _<_}
 use native.Mathlib.Omega.{arith}
 use mathlib.Core.Path.{_≡_, refl, ap, sym, _∙_}
@@ -8,9 +8,9 @@ use mathlib.Core.Bool.{Bool, true, false}
 use mathlib.Core.Option.{Option, none, some}
 use mathlib.Core.Logic.{_⊎_, inl, inr}
 use borrow.Author.Tests.{lt-ltb, ne-eqb}
-use lib.ListN.{length, getD, drop, length-take, length-drop}
+use lib.ListN.{length, getD, drop, length-drop}
 use lib.Seq.{length-take-le, getD-take}
-use lib.Dec.{eqb, ltb}
+use lib.Dec.{ltb}
 use Rattle.definitions.specs.Basic.{pick, bit}
 use Rattle.definitions.specs.Rows.{Row, Form, form, rowsOf, rowAt, ieiOf, placeOf}
 use Rattle.definitions.specs.Length.{whole, unknownForm, unknownLength, missing, required}
@@ -20,12 +20,12 @@ use Rattle.order.specs.declared.Placed.{Placed}
 use Rattle.rows.specs.Numbers.{numbersAt, rowSaid, Whole}
 use Rattle.seen.specs.Seen.{setOf, seenOf, includingPlace}
 use Rattle.elements.specs.Steps.{elementOf, stateOf, stepOf, metOf, fitOf, cameKnown, cameStrange, stateAt, foundAt}
-use Rattle.rows.specs.Indexed.{Indexed}
 use Rattle.elements.specs.declared.element.State.{State}
 use Rattle.elements.specs.declared.element.Came.{Came}
 use Rattle.seen.proofs.Sets.{seen-of}
 use Rattle.elements.proofs.Steps.{step-some, left-first}
-use Rattle.rows.proofs.Indexed.{some-place, no-place}
+use Rattle.by_index.specs.ByIndex.{rowBy, rowsBy}
+use Rattle.by_index.proofs.Rows.{some-place, no-place, row-at}
 
 -- ---- with a place
 
@@ -97,36 +97,50 @@ strange-found start s low left x = by (unknownLength start left) refl
     by (some n) e = let f = unknown-fits start left e in strange-there start s low left x n (f .0) (f .1)
     by none e = strange-cut start s low left x
 
+-- ---- the row of a place fits an element as its numbers say
+
+taken-by : (table index : List ℕ) (k : ℕ) (o : Option ℕ) (s : List ℕ) → taken (rowSaid (numbersAt table k)) o s ≡ taken (rowBy table index k) o s
+unfolding rowBy form taken takenBy
+taken-by table index k none s = refl
+taken-by table index k (some n) s = refl
+
+pub fit-same : (table index : List ℕ) (k : ℕ) (s : List ℕ) → fitOf (rowSaid (numbersAt table k)) s ≡ fitOf (rowBy table index k) s
+unfolding fitOf rowBy form
+fit-same table index k s =
+    let n : Option ℕ = whole (form (rowSaid (numbersAt table k))) s in
+    ap (λ (b : Bool). record { len = length (octetsOf n s); taken = b }) (taken-by table index k n s)
+
 -- ---- at a state's position
 
-module _ (table index : List ℕ) (i : Indexed table index) (start : ℕ) (option : Bool) (part : List ℕ) (s : State) (low : s .seen .low < 2 ^ 64) (inside : s .at < length part) where
+module _ (table index : List ℕ) (start : ℕ) (option : Bool) (part : List ℕ) (s : State) (low : s .seen .low < 2 ^ 64) (inside : s .at < length part) where
   abbrev left : List ℕ
   left = drop (s .at) part
 
   abbrev here : DefStep
-  here = step (rowsOf table) start option (metOf s) (s .at) left
+  here = step (rowsBy table index) start option (metOf s) (s .at) left
 
-  -- the two ways to how an element came, by its first octet, IEI and entry
-  abbrev pub Ways : ℕ → ℕ → ℕ → Came → Type 0
-  Ways x iei k c =
-      ((k ≡ 255) × (c ≡ cameStrange x (missing start left) left (unknownLength start left)))
-      ⊎ ((k ≡ 255 → ⊥) × (c ≡ cameKnown (rowSaid (numbersAt table k)) iei option (bit k (setOf (s .seen))) (ltb k (s .highest)) left))
+  -- the two ways to how an element came, by its first octet, its IEI, the entry that the index has for that, and the place that this is
+  abbrev pub Ways : ℕ → ℕ → ℕ → ℕ → Came → Type 0
+  Ways x iei e k c =
+      ((e < 128) × (k ≡ e) × (c ≡ cameKnown (rowSaid (numbersAt table e)) iei option (bit e (setOf (s .seen))) (ltb e (s .highest)) left))
+      ⊎ ((128 ≤ e) × (k ≡ 255) × (c ≡ cameStrange x (missing start left) left (unknownLength start left)))
 
-  module _ (x iei k : ℕ) (x-is : x ≡ getD part (s .at) 0) (iei-is : iei ≡ ieiOf x) (octet : iei < 256) (k-is : k ≡ getD index iei 0) where
+  module _ (x iei e : ℕ) (x-is : x ≡ getD part (s .at) 0) (iei-is : iei ≡ ieiOf x) (octet : iei < 256) (e-is : e ≡ getD index iei 0) where
     first-is : getD left 0 0 ≡ x
     first-is = left-first (s .at) part ∙ sym x-is
 
-    step-is : (o : Option ℕ) → placeOf (rowsOf table) iei ≡ o → placeStep (rowsOf table) start option (metOf s) (s .at) x left o ≡ here
-    step-is o e =
-        sym (step-some (rowsOf table) start option (metOf s) (s .at) left (simp length-drop (omega arith))
-        ∙ rw (first-is, ← iei-is, e))
+    step-is : (o : Option ℕ) → placeOf (rowsBy table index) iei ≡ o → placeStep (rowsBy table index) start option (metOf s) (s .at) x left o ≡ here
+    step-is o q =
+        sym (step-some (rowsBy table index) start option (metOf s) (s .at) left (simp length-drop (omega arith))
+        ∙ rw (first-is, ← iei-is, q))
 
-    pub came-here : (c : Came) → Ways x iei k c → foundAt s x iei k (length left) c ≡ stepOf here
+    pub came-by : (k : ℕ) (c : Came) → Ways x iei e k c → foundAt s x iei k (length left) c ≡ stepOf here
     unfolding placeStep
-    came-here c (inl w) =
-        let p : placeOf (rowsOf table) iei ≡ none = no-place table index i iei octet (sym k-is ∙ w .0) in
-        rw (w .0, w .1) (rw (first-is, ← iei-is) at (strange-found start s low left x)) ∙ ap stepOf (step-is none p)
-    came-here c (inr w) =
-        let q = some-place table index i iei octet (λ e. w .0 (k-is ∙ e)) in
-        let p : placeOf (rowsOf table) iei ≡ some k = q .0 ∙ ap some (sym k-is) in
-        rw (w .1, row-same table (i .whole) k left) (rw (first-is, ← iei-is) at (known-found (rowsOf table) option s left k x (length left) (simp length-drop (omega arith)) (omega (arith, q .1, k-is)))) ∙ ap stepOf (step-is (some k) p)
+    came-by k c (inl w) =
+        let p : placeOf (rowsBy table index) iei ≡ some e = some-place table index iei octet (omega (arith, e-is, w .0)) ∙ ap some (sym e-is) in
+        rw (w .1, w .2, fit-same table index e left, ← row-at table index e (w .0))
+        (rw (first-is, ← iei-is) at (known-found (rowsBy table index) option s left e x (length left) (simp length-drop (omega arith)) (w .0)))
+        ∙ ap stepOf (step-is (some e) p)
+    came-by k c (inr w) =
+        let p : placeOf (rowsBy table index) iei ≡ none = no-place table index iei octet (omega (arith, e-is, w .0)) in
+        rw (w .1, w .2) (rw (first-is, ← iei-is) at (strange-found start s low left x)) ∙ ap stepOf (step-is none p)

@@ -6,10 +6,10 @@ use mathlib.Core.Path.{_≡_, refl, ap, ap₂, sym, _∙_}
 use mathlib.Core.List.{List}
 use mathlib.Core.Bool.{Bool}
 use mathlib.Core.Option.{none}
-use lib.ListN.{length, drop}
+use lib.ListN.{length}
 use Rattle.definitions.specs.Rows.{Row, firstBad}
-use Rattle.definitions.specs.Elements.{Element as DefElement, Parted, elements, cutShort, before, step, parted}
-use Rattle.elements.specs.Steps.{elementOf, stepOf, metOf}
+use Rattle.definitions.specs.Elements.{Element as DefElement, Parted, elements, cutShort, before, parted}
+use Rattle.elements.specs.Steps.{elementOf, standsAt}
 use Rattle.elements.specs.Nexts.{startState, nextAs, nextOf}
 use Rattle.elements.specs.Iterates.{also, onward, iterated, told, foundIn}
 use Rattle.elements.specs.declared.element.State.{State}
@@ -26,7 +26,7 @@ found-before d (cutShort a x n k) = refl
 
 module _ (t : List Row) (start : ℕ) (option : Bool) (part : List ℕ) (passes : firstBad t ≡ none) (short : length part ≤ 65535) where
   here : State → Step
-  here s = stepOf (step t start option (metOf s) (s .at) (drop (s .at) part))
+  here s = standsAt t start option part s
 
   next-is : (s : State) → nextOf t start option part s ≡ nextAs (here s)
   unfolding here

@@ -1,7 +1,6 @@
 -- Laws that proofs cite.
 pub mod Frames
 pub mod Came
-pub mod CameBy
 pub mod Steps
 pub mod Nexts
 pub mod Stepping

@@ -2,49 +2,41 @@
 -- By how the element came; where it is cut short there is no such state.
 use Prim.Native.Nat.{ℕ, _+_, _-_, _^_, _≤_, _<_}
 use native.Mathlib.Omega.{arith}
-use mathlib.Core.Path.{_≡_, refl, ap, sym, _∙_}
+use mathlib.Core.Path.{_≡_, refl, ap, _∙_}
 use mathlib.Core.List.{List}
 use mathlib.Core.Bool.{Bool, true, false}
 use mathlib.Core.Logic.{inl, inr}
 use borrow.Author.Tests.{ltb-true, ltb-false}
 use lib.ListN.{length, getD, drop}
-use lib.Seq.{getD-drop}
-use lib.Dec.{eqb, ltb}
+use lib.Dec.{ltb}
 use Rattle.definitions.specs.Basic.{pick, bit}
 use Rattle.definitions.specs.Rows.{Row, rowsOf, ieiOf}
 use Rattle.definitions.specs.Length.{unknownLength, missing}
-use Rattle.definitions.specs.Elements.{step}
 use Rattle.rows.specs.Numbers.{numbersAt, rowSaid}
 use Rattle.rows.specs.Indexed.{Indexed}
 use Rattle.seen.specs.Seen.{setOf}
 use Rattle.by_index.specs.ByIndex.{rowsBy}
-use Rattle.by_index.proofs.Own.{iei-octet, step-same}
-use Rattle.elements.specs.Steps.{stepOf, metOf, cameKnown, cameStrange, stateAt, stateAfter, foundAt, placeAt}
-use Rattle.elements.specs.Walked.{begun, onward, onStep, stepped}
+use Rattle.definitions.proofs.TableLaws.{iei-octet}
+use Rattle.by_index.proofs.Own.{step-same}
+use Rattle.elements.specs.Steps.{stepOf, metOf, standsAt, cameKnown, cameStrange, stateAfter, foundAt, placeAt}
+use Rattle.elements.specs.Walked.{begun, onStep, stepped}
 use Rattle.elements.specs.declared.element.State.{State}
 use Rattle.elements.specs.declared.element.Came.{Came}
 use Rattle.elements.specs.declared.element.Step.{Step}
 use Rattle.elements.specs.declared.walk.Walk.{Walk}
 use Rattle.elements.specs.declared.walk.Stepped.{Stepped}
-use Rattle.elements.proofs.CameBy.{Ways, came-by}
+use Rattle.elements.proofs.Steps.{left-first}
+use Rattle.elements.proofs.Came.{Ways, came-by}
+use Rattle.elements.proofs.Nexts.{nexts}
 use Rattle.elements.proofs.Stepping.{step-next, step-cut}
-
--- the state behind an element of so many octets stands so far on
-pick-at : (b : Bool) (u v : State) {n : ℕ} → u .at ≡ n → v .at ≡ n → pick b u v .at ≡ n
-pick-at true u v e f = e
-pick-at false u v e f = f
-
-after-at : (s : State) (k n : ℕ) → stateAfter s k n .at ≡ s .at + n
-unfolding stateAt
-after-at s k n = pick-at (eqb k 255) _ _ refl refl
 
 -- by any index, and by the table's own
 pub answers : (table index : List ℕ) (start : ℕ) (option : Bool) (part : List ℕ) (s : State) → ((j : ℕ) → getD part j 0 < 256) → {r : Step}
-    → r ≡ stepOf (step (rowsBy table index) start option (metOf s) (s .at) (drop (s .at) part))
-    → (r ≡ stepOf (step (rowsBy table index) start option (metOf s) (s .at) (drop (s .at) part)))
-    × (Indexed table index → r ≡ stepOf (step (rowsOf table) start option (metOf s) (s .at) (drop (s .at) part)))
+    → r ≡ standsAt (rowsBy table index) start option part s
+    → (r ≡ standsAt (rowsBy table index) start option part s)
+    × (Indexed table index → r ≡ standsAt (rowsOf table) start option part s)
 answers table index start option part s octets e =
-    (e, λ i. e ∙ ap stepOf (step-same table index i start option (metOf s) (s .at) (drop (s .at) part) (λ j. rw (getD-drop (s .at) part j 0) (octets (s .at + j)))))
+    (e, λ i. e ∙ ap stepOf (step-same table index i start option (metOf s) (s .at) (drop (s .at) part) (rw (left-first (s .at) part) (iei-octet _ (octets (s .at))))))
 
 module _ (table index : List ℕ) (start : ℕ) (option : Bool) (part : List ℕ) (s : State) (low : s .seen .low < 2 ^ 64) (inside : s .at < length part) (octets : (j : ℕ) → getD part j 0 < 256) where
   abbrev t : List Row
@@ -54,7 +46,7 @@ module _ (table index : List ℕ) (start : ℕ) (option : Bool) (part : List ℕ
   left = drop (s .at) part
 
   abbrev here : Step
-  here = stepOf (step t start option (metOf s) (s .at) left)
+  here = standsAt t start option part s
 
   abbrev x : ℕ
   x = getD part (s .at) 0
@@ -91,7 +83,7 @@ module _ (table index : List ℕ) (start : ℕ) (option : Bool) (part : List ℕ
           let e = step-next t start option part 0 (begun s) f in
           let u : w .state ≡ v = cc in
           let o : w .placed ≡ p = cc in
-          let a : v .at ≡ s .at + n = after-at s (placeAt entry) n in
+          let a : v .at ≡ s .at + n = nexts t start option part s (omega arith) _ v f .further in
           let d : v .at - s .at ≡ n = omega arith in
           record { further = rw u (omega arith); is = rw (u, o, d) f }
 

@@ -1,5 +1,5 @@
--- A step by what stands at the front, and the place of its IEI by an index.
--- The index has the table's own entries; one that is 255 is no place.
+-- A step by what stands at the front: at the end nothing, else what the place of its IEI says.
+-- By whether an octet is left.
 use Prim.Native.Nat.{ℕ, _<_}
 use native.Mathlib.Omega.{arith}
 use mathlib.Core.Path.{_≡_, refl, ap, _∙_}

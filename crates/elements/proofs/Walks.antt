@@ -6,11 +6,11 @@ use mathlib.Core.Path.{_≡_, refl, ap, sym, _∙_}
 use mathlib.Core.List.{List, [], _∷_}
 use mathlib.Core.Bool.{Bool}
 use mathlib.Core.Option.{none}
-use lib.ListN.{length, drop}
+use lib.ListN.{length}
 use borrow.Author.Tests.{le-ltb}
 use Rattle.definitions.specs.Rows.{Row, firstBad}
-use Rattle.definitions.specs.Elements.{Element as DefElement, Parted, elements, cutShort, before, step}
-use Rattle.elements.specs.Steps.{stepOf, metOf}
+use Rattle.definitions.specs.Elements.{Element as DefElement, Parted, elements, cutShort, before}
+use Rattle.elements.specs.Steps.{standsAt}
 use Rattle.elements.specs.Nexts.{nextAs, nextFrom, nextOf}
 use Rattle.elements.specs.declared.element.State.{State}
 use Rattle.elements.specs.declared.element.Element.{Element}
@@ -36,7 +36,7 @@ back-as Step.End = refl
 module _ (t : List Row) (start : ℕ) (option : Bool) (part : List ℕ) where
   module _ (s : State) (passes : firstBad t ≡ none) (short : length part ≤ 65535) where
     abbrev pub here : Step
-    here = stepOf (step t start option (metOf s) (s .at) (drop (s .at) part))
+    here = standsAt t start option part s
 
     pub next-read : nextOf t start option part s ≡ nextAs here
     unfolding nextOf nextFrom

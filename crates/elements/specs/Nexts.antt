@@ -3,12 +3,11 @@ use Prim.Native.Nat.{ℕ}
 use mathlib.Core.List.{List}
 use mathlib.Core.Bool.{Bool}
 use mathlib.Core.Option.{Option, none, some}
-use lib.ListN.{length, drop}
+use lib.ListN.{length}
 use lib.Dec.{ltb}
 use Rattle.definitions.specs.Basic.{pick, mostOctets}
 use Rattle.definitions.specs.Rows.{Row, firstBad}
-use Rattle.definitions.specs.Elements.{step}
-use Rattle.elements.specs.Steps.{stepOf, metOf}
+use Rattle.elements.specs.Steps.{standsAt}
 use Rattle.elements.specs.declared.element.State.{State}
 use Rattle.elements.specs.declared.element.Step.{Step}
 use Rattle.elements.specs.declared.next.NextElement.{NextElement}
@@ -25,7 +24,7 @@ nextAs Step.End = NextElement.End
 -- a part over the limit is not read
 unfoldable pub nextFrom : List Row → ℕ → Bool → List ℕ → State → NextElement
 nextFrom t start option part s =
-    pick (ltb mostOctets (length part)) NextElement.TooLong (nextAs (stepOf (step t start option (metOf s) (s .at) (drop (s .at) part))))
+    pick (ltb mostOctets (length part)) NextElement.TooLong (nextAs (standsAt t start option part s))
 
 -- nor one by a table that fails its check
 abbrev pub nextBy : Option ℕ → NextElement → NextElement

@@ -3,15 +3,14 @@ use Prim.Native.Nat.{ℕ, _+_, max}
 use mathlib.Core.List.{List}
 use mathlib.Core.Bool.{Bool}
 use mathlib.Core.Option.{Option, none, some, Option·getD}
-use lib.ListN.{length, getD, drop}
+use lib.ListN.{length, drop}
 use lib.Dec.{eqb, ltb}
-use Rattle.definitions.specs.Basic.{pick, bit}
-use Rattle.definitions.specs.Rows.{Row, form, ieiOf}
-use Rattle.definitions.specs.Length.{whole, unknownLength, missing, required}
-use Rattle.definitions.specs.Elements.{Verdict, accepted, unknown, malformed, repeated, outOfSequence, judged, taken, octetsOf, Element as DefElement, ieiAt, Met, Step as DefStep, next, cut, ended}
+use Rattle.definitions.specs.Basic.{pick}
+use Rattle.definitions.specs.Rows.{Row, form}
+use Rattle.definitions.specs.Length.{whole, required}
+use Rattle.definitions.specs.Elements.{Verdict, accepted, unknown, malformed, repeated, outOfSequence, judged, taken, octetsOf, Element as DefElement, ieiAt, Met, Step as DefStep, next, cut, ended, step}
 use Rattle.order.specs.declared.Placed.{Placed}
 use Rattle.order.specs.declared.IgnoredIeReason.{IgnoredIeReason}
-use Rattle.rows.specs.Numbers.{numbersAt, rowSaid}
 use Rattle.seen.specs.Seen.{setOf, seenOf, includingPlace}
 use Rattle.elements.specs.declared.element.State.{State}
 use Rattle.elements.specs.declared.element.Element.{Element}
@@ -42,6 +41,10 @@ abbrev pub stepOf : DefStep → Step
 stepOf (next e m) = Step.Next (elementOf e) (stateOf e m)
 stepOf (cut a x n k) = Step.Cut a x n k
 stepOf ended = Step.End
+
+-- what stands at a state's position, by rows
+abbrev pub standsAt : List Row → ℕ → Bool → List ℕ → State → Step
+standsAt t start option part s = stepOf (step t start option (metOf s) (s .at) (drop (s .at) part))
 
 -- ---- as the code finds a step: how the element came, and the state behind it
 

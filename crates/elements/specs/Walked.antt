@@ -2,12 +2,12 @@
 use Prim.Native.Nat.{ℕ, zero, suc, _+_}
 use mathlib.Core.List.{List}
 use mathlib.Core.Bool.{Bool}
-use lib.ListN.{length, drop}
+use lib.ListN.{length}
 use Rattle.definitions.specs.Rows.{Row}
-use Rattle.definitions.specs.Elements.{step}
-use Rattle.definitions.specs.Logs.{leb128}
+use Rattle.definitions.specs.Logs.{leb128, orderEntry}
+use Rattle.order.specs.Order.{placedAs}
 use Rattle.order.specs.declared.Placed.{Placed}
-use Rattle.elements.specs.Steps.{stepOf, metOf}
+use Rattle.elements.specs.Steps.{standsAt}
 use Rattle.elements.specs.declared.element.State.{State}
 use Rattle.elements.specs.declared.element.Element.{Element}
 use Rattle.elements.specs.declared.element.Step.{Step}
@@ -20,15 +20,15 @@ use Rattle.elements.specs.declared.walk.Stepped.{Stepped}
 abbrev pub noTally : Tally
 noTally = record { kept = 0; order = 0 }
 
--- with an element more that no row took
-unfoldable pub withAside : Tally → ℕ → Tally
-withAside c len = record { kept = c .kept + (length (leb128 len) + len); order = c .order + 1 }
+-- the octets of an element in the kept log, by its length and how it came: its count and itself, if no row took it
+abbrev pub keptNeed : ℕ → Placed → ℕ
+keptNeed len (Placed.Known iei) = 0
+keptNeed len Placed.Unknown = length (leb128 len) + len
+keptNeed len (Placed.Ignored r) = length (leb128 len) + len
 
--- with an element more, by its length and how it came
-abbrev pub tallied : Tally → ℕ → Placed → Tally
-tallied c len (Placed.Known iei) = record { kept = c .kept; order = c .order + 2 }
-tallied c len Placed.Unknown = withAside c len
-tallied c len (Placed.Ignored r) = withAside c len
+-- with an element more
+unfoldable pub tallied : Tally → ℕ → Placed → Tally
+tallied c len p = record { kept = c .kept + keptNeed len p; order = c .order + length (orderEntry (placedAs p)) }
 
 -- ---- the walk
 
@@ -36,16 +36,16 @@ abbrev pub begun : State → Walk
 begun s = record { state = s; placed = Placed.Unknown; needs = noTally }
 
 -- behind an element, by the state there
-abbrev pub onward : Walk → Element → State → Walk
-onward w e v = record { state = v; placed = e .placed; needs = tallied (w .needs) (e .len) (e .placed) }
+abbrev pub walkedOn : Walk → Element → State → Walk
+walkedOn w e v = record { state = v; placed = e .placed; needs = tallied (w .needs) (e .len) (e .placed) }
 
 -- by what stands at the state, and what comes from behind an element on
 unfoldable pub onStep : Step → Walk → (Walk → Stepped) → Stepped
-onStep (Step.Next e v) w rest = rest (onward w e v)
+onStep (Step.Next e v) w rest = rest (walkedOn w e v)
 onStep (Step.Cut a x n m) w rest = Stepped.Cut a x n m
 onStep Step.End w rest = Stepped.To w
 
 -- so many steps of reading, at most
 unfoldable pub stepped : List Row → ℕ → Bool → List ℕ → ℕ → Walk → Stepped
 stepped t start option part zero w = Stepped.To w
-stepped t start option part (suc n) w = onStep (stepOf (step t start option (metOf (w .state)) (w .state .at) (drop (w .state .at) part))) w (stepped t start option part n)
+stepped t start option part (suc n) w = onStep (standsAt t start option part (w .state)) w (stepped t start option part n)

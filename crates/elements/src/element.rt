@@ -17,16 +17,16 @@ use seen::Seen;
 use seen::seen_with;
 ghost use mathlib.Core.Path.{_≡_};
 ghost use mathlib.Core.Option.{some};
-ghost use Prim.Native.Nat.{_+_, _≤_, _<_, max};
-ghost use lib.ListN.{length, getD, drop};
+ghost use Prim.Native.Nat.{_+_, _≤_, max};
+ghost use lib.ListN.{length, getD};
 ghost use Rattle.definitions.specs.Basic.{receivable};
 ghost use Rattle.definitions.specs.Rows.{rowsOf, form, ieiOf};
 ghost use Rattle.definitions.specs.Length.{header, within, whole, unknownLength, missing, required};
-ghost use Rattle.definitions.specs.Elements.{takenBy, judged, step};
+ghost use Rattle.definitions.specs.Elements.{takenBy, judged};
 ghost use Rattle.length.specs.Answers.{lengthOf};
 ghost use Rattle.rows.specs.Forms.{formAs};
 ghost use Rattle.rows.specs.Numbers.{rowSaid};
-ghost use Rattle.elements.specs.Steps.{placedFor, fitOf, cameKnown, cameStrange, stateAt, placeAt, stepOf, metOf};
+ghost use Rattle.elements.specs.Steps.{placedFor, fitOf, cameKnown, cameStrange, stateAt, placeAt, standsAt};
 ghost use Rattle.rows.specs.Indexed.{Indexed};
 ghost use Rattle.by_index.specs.ByIndex.{rowsBy};
 
@@ -236,14 +236,14 @@ fn wide(x: u8) -> usize
     x as usize
 }
 
-// What an index says of an IEI: a place or NO_PLACE.
+// The entry that an index has for an IEI.
 pub fn entry_of(index: &[u8; 256], iei: u8) -> usize
     ensures { λ r. ⌜ r ≡ getD (now (index .entry)) iei 0 ⌝ }
 {
     wide(index[wide(iei)])
 }
 
-// The same, where an entry from 128 on is no place.
+// The place that this is, where an entry from 128 on is none.
 fn place_by(index: &[u8; 256], iei: u8) -> usize
     ensures { λ r. ⌜ r ≡ placeAt (getD (now (index .entry)) iei 0) ⌝ }
 {
@@ -279,8 +279,8 @@ pub fn element_step(
     option: bool,
     state: State,
 ) -> Step
-    ensures { λ r. ⌜ r ≡ stepOf (step (rowsBy (now (table .entry)) (now (index .entry))) «tlve_start» option (metOf state) (state .at) (drop (state .at) (now (part .entry)))) ⌝ }
-    ensures { λ r. ⌜ (Indexed (now (table .entry)) (now (index .entry)) → r ≡ stepOf (step (rowsOf (now (table .entry))) «tlve_start» option (metOf state) (state .at) (drop (state .at) (now (part .entry))))) ⌝ }
+    ensures { λ r. ⌜ r ≡ standsAt (rowsBy (now (table .entry)) (now (index .entry))) «tlve_start» option (now (part .entry)) state ⌝ }
+    ensures { λ r. ⌜ (Indexed (now (table .entry)) (now (index .entry)) → r ≡ standsAt (rowsOf (now (table .entry))) «tlve_start» option (now (part .entry)) state) ⌝ }
 {
     let at = state.at;
     if at >= part.len() {

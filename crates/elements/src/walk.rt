@@ -1,6 +1,6 @@
 // A walk over the elements of a part, so many at most: where reading is behind them, how the last one came, and what they need of the logs.
-// Measuring is this walk over all of them, and one element at a time is a walk over one: so the choice by the index, between an element
-// that has a place and one that has none, stands here and in filling alone.
+// Measuring is this walk over all of them, and one element at a time is a walk over one: so the choice between `came_known` and
+// `came_unknown`, by what the index says, stands here and in filling alone.
 use crate::element::Came;
 use crate::element::NO_PLACE;
 use crate::element::State;
@@ -16,7 +16,8 @@ use seen::seen_has;
 ghost use mathlib.Core.Path.{_≡_};
 ghost use Prim.Native.Nat.{_+_, _*_, _≤_, _<_, _^_};
 ghost use Rattle.by_index.specs.ByIndex.{rowsBy};
-ghost use Rattle.elements.specs.Walked.{withAside, tallied, begun, stepped};
+ghost use Rattle.elements.specs.Walked.{tallied, begun, stepped};
+ghost use Rattle.order.specs.declared.Placed.{Placed};
 
 // What elements need: octets of the kept log, and of an order log with an entry for each.
 pub struct Tally {
@@ -54,7 +55,7 @@ fn with_element(t: Tally, len: usize, placed: Placed) -> Tally
 // With one element more that no row took.
 fn aside(t: Tally, len: usize) -> Tally
     requires { ⌜ (1 ≤ len) × (t .kept + 2 * len < 2 ^ 64) × (t .order + 2 < 2 ^ 64) ⌝ }
-    ensures { λ r. ⌜ r ≡ withAside t len ⌝ }
+    ensures { λ r. ⌜ r ≡ tallied t len Placed.Unknown ⌝ }
 {
     Tally {
         kept: t.kept + (count_len(len) + len),
@@ -62,7 +63,7 @@ fn aside(t: Tally, len: usize) -> Tally
     }
 }
 
-// By a table and an index, from a state on.
+// By a table and an index, from a state on. Where there is no element, the last one came as an unknown one and nothing is needed.
 pub fn steps(
     part: &[u8],
     table: &[u32],

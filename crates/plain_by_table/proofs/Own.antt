@@ -18,7 +18,8 @@ use Rattle.definitions.proofs.TableLaws.{few-places}
 use Rattle.rows.specs.Indexed.{Indexed}
 use Rattle.by_index.specs.ByIndex.{rowsBy}
 use Rattle.by_index.proofs.Rows.{entry-is}
-use Rattle.by_index.proofs.Own.{iei-octet, parted-same}
+use Rattle.definitions.proofs.TableLaws.{iei-octet}
+use Rattle.by_index.proofs.Own.{parted-same}
 use Rattle.plain_reading.specs.Entered.{enteredAll}
 use Rattle.plain_reading.specs.Plains.{plainIn, Plainly}
 use Rattle.plain_reading.proofs.Copied.{plain-decodes}

@@ -19,7 +19,7 @@ use Rattle.elements.specs.declared.element.Fit.{Fit}
 use Rattle.elements.specs.declared.element.State.{State}
 use Rattle.by_index.specs.ByIndex.{rowBy, rowsBy}
 use Rattle.by_index.proofs.Rows.{row-at}
-use Rattle.elements.proofs.CameBy.{fit-same, came-by}
+use Rattle.elements.proofs.Came.{fit-same, came-by}
 use Rattle.plain_reading.specs.Plains.{plainRows}
 use Rattle.plain_reading.proofs.Lining.{Lining, Enters, s as at-state, Here, strangeHere, knownHere, none-strange, none-below, none-other, none-taken, enters}
 use Rattle.filling.proofs.ByIndex.{takes-inside}

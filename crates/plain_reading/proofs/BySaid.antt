@@ -1,6 +1,7 @@
 -- An element in its turn, by what is said of its IEI: the laws of Lining, of a numbered table and its own index.
 -- Where nothing is said, the IEI has no place or is not its row's first; else the row is the one of its place.
 use Prim.Native.Nat.{ℕ, _≤_, _<_}
+use native.Mathlib.Omega.{arith}
 use mathlib.Core.Path.{_≡_, refl, ap, sym, _∙_}
 use mathlib.Core.List.{List}
 use mathlib.Core.Bool.{Bool, true, false}
@@ -15,10 +16,13 @@ use Rattle.real.specs.Real.{realOf}
 use Rattle.said.specs.Said.{saidOfRow, saidOf}
 use Rattle.said.specs.declared.Said.{Said}
 use Rattle.plain_reading.proofs.Says.{indexOf, own-index, Says, strange, other, first, says}
-use Rattle.elements.specs.Steps.{fitOf}
+use Rattle.elements.specs.Steps.{fitOf, stepOf, metOf}
 use Rattle.elements.specs.declared.element.Fit.{Fit}
 use Rattle.elements.specs.declared.element.Came.{Came}
-use Rattle.elements.proofs.Came.{Ways, came-here, row-same}
+use Rattle.elements.proofs.Steps.{left-first}
+use Rattle.elements.proofs.Came.{Ways, came-by, row-same}
+use Rattle.rows.proofs.Indexed.{some-place}
+use Rattle.by_index.proofs.Own.{step-same}
 use Rattle.plain_reading.specs.Entered.{before as headOf}
 use Rattle.plain_reading.specs.Plains.{plainRows}
 use Rattle.plain_reading.specs.ByNumber.{rowOfSaid}
@@ -74,18 +78,22 @@ module _ (number start : ℕ) (option : Bool) (part rows₀ : List ℕ) where
     fit = fitOf (rowSaid (rowOfSaid s iei)) left
 
     -- how the element came is the step there
-    here : (c : Came) → Ways (realOf number) (indexOf number) (own-index number) start option part (at-state t start option part rows₀ l iei k) (l .line .low) inside (getD part at 0) iei k c → Here t start option part rows₀ l iei k c
-    here = came-here (realOf number) (indexOf number) (own-index number) start option part (at-state t start option part rows₀ l iei k) (l .line .low) inside (getD part at 0) iei k refl iei-is octet refl
+    here : (c : Came) → Ways (realOf number) (indexOf number) start option part (at-state t start option part rows₀ l iei k) (l .line .low) inside (getD part at 0) iei k k c → Here t start option part rows₀ l iei k c
+    here c w =
+        came-by (realOf number) (indexOf number) start option part (at-state t start option part rows₀ l iei k) (l .line .low) inside (getD part at 0) iei k refl iei-is octet refl k c w
+        ∙ ap stepOf (step-same (realOf number) (indexOf number) (own-index number) start option (metOf (at-state t start option part rows₀ l iei k)) at left (rw (left-first at part, ← iei-is) octet))
 
     known-here : (k ≡ 255 → ⊥) → Here t start option part rows₀ l iei k (knownHere t start option part rows₀ l iei k (rowAt t k))
-    known-here has = rw (row-same (realOf number) (own-index number .whole) k left) at (here (knownHere t start option part rows₀ l iei k (rowSaid (numbersAt (realOf number) k))) (inr (has, refl)))
+    known-here has =
+        rw (row-same (realOf number) (own-index number .whole) k left)
+        at (here (knownHere t start option part rows₀ l iei k (rowSaid (numbersAt (realOf number) k))) (inl (some-place (realOf number) (indexOf number) (own-index number) iei octet has .1, refl, refl)))
 
     -- nothing is said
     pub none-unsaid : s .place ≡ 255 → none ≡ all
     none-unsaid e = by (saidOf number iei) (says number iei octet) s-is
       where
         by : (u : Said) → Says t iei k u → s ≡ u → none ≡ all
-        by _ (strange q) f = none-strange t start option part rows₀ l iei k (here (strangeHere t start option part rows₀ l iei k) (inl (q, refl)))
+        by _ (strange q) f = none-strange t start option part rows₀ l iei k (here (strangeHere t start option part rows₀ l iei k) (inr (omega arith, q, refl)))
         by _ (other has q) f = none-other t start option part rows₀ l iei k has (known-here has) q
         by _ (first has q) f = absurd (has (sym (ap (λ (u : Said). u .place) f) ∙ e))
 

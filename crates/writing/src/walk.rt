@@ -337,7 +337,7 @@ pub(crate) fn write<'a>(
         added,
         output,
     );
-    let at = put_added(
+    let at = put_lower(
         table,
         rows,
         received,

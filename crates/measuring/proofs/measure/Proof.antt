@@ -14,9 +14,9 @@ use Rattle.by_index.proofs.Own.{parted-same}
 use Rattle.elements.specs.Nexts.{startState}
 use Rattle.elements.specs.Walked.{begun, stepped}
 use Rattle.elements.proofs.Nexts.{from-start}
-use Rattle.measuring.specs.Measures.{measured, measuredFrom}
+use Rattle.measuring.specs.Measures.{measured}
 use Rattle.measuring.specs.declared.Measured.{Measured}
-use Rattle.measuring.proofs.Tallies.{none-before, walkNeeds, walk-needs}
+use Rattle.measuring.proofs.Tallies.{measuredFrom, none-before, walkNeeds, walk-needs}
 use borrow.Author.Needs.{needs}
 use Rattle.measuring.proofs.measure.Statement.{statement}
 use Rattle.measuring.proofs.measure.Tie as tie

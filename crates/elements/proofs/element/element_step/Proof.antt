@@ -1,9 +1,8 @@
 -- `element_step` is the end, or a walk over one element.
 -- What the walk leaves tells the element that stands there.
 use native.Mathlib.Omega.{arith}
-use mathlib.Core.Path.{_≡_, ap, sym, _∙_}
-use lib.ListN.{length, getD, drop, length-drop}
-use Rattle.definitions.specs.Elements.{step}
+use mathlib.Core.Path.{ap, sym}
+use lib.ListN.{drop, length-drop}
 use Rattle.by_index.specs.ByIndex.{rowsBy}
 use Rattle.elements.specs.Steps.{stepOf, metOf}
 use Rattle.elements.proofs.Steps.{step-end}

@@ -1,6 +1,5 @@
 -- `place_by` is the entry that an index has for an IEI, or 255 from 128 on.
 -- Each answer by the test that led to it.
-use mathlib.Core.Path.{_≡_, _∙_}
 use borrow.Author.Tests.{lt-ltb, le-ltb}
 use borrow.Author.Needs.{needs}
 use Rattle.elements.specs.Steps.{placeAt}

@@ -2,7 +2,8 @@
 -- A count takes no more octets than it counts, so no sum wraps.
 use native.Mathlib.Omega.{arith}
 use Rattle.definitions.proofs.LogLaws.{leb-room}
-use Rattle.elements.specs.Walked.{withAside}
+use Rattle.definitions.specs.Logs.{orderEntry}
+use Rattle.elements.specs.Walked.{tallied}
 use borrow.Author.Needs.{needs}
 use Rattle.elements.proofs.walk.aside.Statement.{statement}
 use Rattle.elements.proofs.walk.aside.Tie as tie
@@ -20,7 +21,7 @@ add-t6 : tie.Need-add-t6
 add-t6 c = search needs
 
 returns : tie.Need-returns
-unfolding withAside
+unfolding tallied orderEntry
 returns c = let a = c .before .before .before .args in rw (c .before .before .count-len .ensures)
 
 pub aside-spec : {M : Type 1} → statement M

@@ -1,19 +1,16 @@
 -- `steps` makes a step a turn: the invariant says that what is left of the walk from where it is gives the answer of the whole.
 -- Each step is the definition's, by the rows of table and index; the measure is how many are left.
-use Prim.Native.Nat.{ℕ, _-_, _+_, _<_}
+use Prim.Native.Nat.{_-_}
 use native.Mathlib.Omega.{arith}
 use mathlib.Core.Path.{_≡_, refl, _∙_}
 use mathlib.Core.Logic.{⊎-elim, inl, inr}
 use lib.ListN.{length, getD, drop}
-use Rattle.definitions.specs.Elements.{step}
 use Rattle.definitions.proofs.Lists.{to-end}
 use Rattle.by_index.specs.ByIndex.{rowsBy}
-use Rattle.elements.specs.Steps.{stepOf, metOf, foundAt, stateAfter}
-use Rattle.elements.specs.Walked.{tallied, onward}
+use Rattle.elements.specs.Steps.{standsAt, foundAt, stateAfter}
 use Rattle.elements.specs.declared.element.State.{State}
 use Rattle.elements.specs.declared.element.Element.{Element}
-use Rattle.elements.specs.declared.walk.Walk.{Walk}
-use Rattle.elements.proofs.CameBy.{Ways, came-by}
+use Rattle.elements.proofs.Came.{Ways, came-by}
 use Rattle.elements.proofs.Nexts.{Nexts, nexts}
 use Rattle.elements.proofs.Stepping.{Stepping, stepping-begun, stepping-on, stepping-cut, stepping-over, stepping-all}
 use borrow.Author.Needs.{needs}
@@ -73,7 +70,7 @@ ways c =
     (λ w. inr (w .0 .left, w .2, w .3 ∙ rw to-end at (w .1 .ensures)))
     (c .if2 .came)
 
-here : (c : tie.Joined2 Inv-loop μ-loop) → let a = c .before .before .before .before .before .before .before .before .before .before .before .args in let s = c .before .before .before .before .before .before .before .before .loop .state in foundAt s (getD (a .part .now) (s .at) 0) (c .before .before .before .before .iei-of .result) (c .if2 .place) (length (drop (s .at) (a .part .now))) (c .if2 .came′) ≡ stepOf (step (rowsBy (a .table .now) (a .index .now)) (a .tlve-start) (a .option) (metOf s) (s .at) (drop (s .at) (a .part .now)))
+here : (c : tie.Joined2 Inv-loop μ-loop) → let a = c .before .before .before .before .before .before .before .before .before .before .before .args in let s = c .before .before .before .before .before .before .before .before .loop .state in foundAt s (getD (a .part .now) (s .at) 0) (c .before .before .before .before .iei-of .result) (c .if2 .place) (length (drop (s .at) (a .part .now))) (c .if2 .came′) ≡ standsAt (rowsBy (a .table .now) (a .index .now)) (a .tlve-start) (a .option) (a .part .now) s
 here c =
     let a = c .before .before .before .before .before .before .before .before .before .before .before .args in
     came-by (a .table .now) (a .index .now) (a .tlve-start) (a .option) (a .part .now) (c .before .before .before .before .before .before .before .before .loop .state) (c .before .before .before .before .before .before .before .before .loop .inv .low) (omega arith) _ _ _ refl (c .before .before .before .before .iei-of .ensures) (omega arith) (c .before .before .before .entry-of .ensures) (c .if2 .place) (c .if2 .came′) (ways c)

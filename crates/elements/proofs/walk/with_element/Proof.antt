@@ -2,6 +2,7 @@
 -- Each arm names it.
 use mathlib.Core.Path.{ap, sym, _∙_}
 use Rattle.elements.specs.Walked.{tallied}
+use Rattle.elements.proofs.Stepping.{known-tallied, ignored-tallied}
 use borrow.Author.Needs.{needs}
 use Rattle.elements.proofs.walk.with_element.Statement.{statement}
 use Rattle.elements.proofs.walk.with_element.Tie as tie
@@ -25,13 +26,13 @@ aside-requires-2 : tie.Need-aside-requires-2
 aside-requires-2 c κs = search needs
 
 returns : tie.Need-returns
-returns c = let a = c .before .before .before .args in ap (tallied (a .t) (a .len)) (sym (c .before .enum-told .given .1))
+returns c = let a = c .before .before .before .args in known-tallied (a .t) (a .len) _ ∙ ap (tallied (a .t) (a .len)) (sym (c .before .enum-told .given .1))
 
 returns-2 : tie.Need-returns-2
 returns-2 c = let a = c .before .before .before .args in c .aside .ensures ∙ ap (tallied (a .t) (a .len)) (sym (c .before .enum-told2 .given .1))
 
 returns-3 : tie.Need-returns-3
-returns-3 c = let a = c .before .before .before .args in c .aside2 .ensures ∙ ap (tallied (a .t) (a .len)) (sym (c .before .enum-told3 .given .1))
+returns-3 c = let a = c .before .before .before .args in c .aside2 .ensures ∙ ignored-tallied (a .t) (a .len) _ ∙ ap (tallied (a .t) (a .len)) (sym (c .before .enum-told3 .given .1))
 
 pub with-element-spec : {M : Type 1} → statement M
 with-element-spec =

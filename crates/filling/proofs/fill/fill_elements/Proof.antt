@@ -12,7 +12,7 @@ use Rattle.elements.specs.Steps.{stepOf, metOf, foundAt, stateAfter}
 use Rattle.elements.specs.declared.element.State.{State}
 use Rattle.elements.specs.declared.element.Element.{Element}
 use Rattle.by_index.specs.ByIndex.{rowsBy}
-use Rattle.elements.proofs.CameBy.{Ways, came-by}
+use Rattle.elements.proofs.Came.{Ways, came-by}
 use Rattle.elements.proofs.Nexts.{Nexts, nexts, cuts, at-end}
 use Rattle.filling.proofs.ByIndex.{places-by, row-said, entered-said}
 use Rattle.filling.proofs.Filling.{Filling, begun, row-fits, kept-fits, order-fits, filled, moved, ended, cut-there}
