@@ -2,7 +2,6 @@
 -- of both on. So what is left to write goes over an entry. By induction on how many places are left.
 use Prim.Native.Nat.{ℕ, zero, suc, _+_, _-_, _≤_, _<_, max}
 use native.Mathlib.Omega.{arith}
-use native.Mathlib.Numerals.{add-one}
 use mathlib.Core.Path.{_≡_, refl, ap, ap₂, sym, _∙_}
 use mathlib.Core.List.{List, [], _∷_, _++_, append-nil, append-assoc}
 use mathlib.Core.Bool.{Bool, true, false, _&&_, not}
@@ -17,7 +16,6 @@ use Rattle.definitions.specs.Logs.{Placed, knownIei, notKnown, ignored}
 use Rattle.definitions.specs.Writing.{Filled, elementAt, logged, addedFrom, below, notBelow, firsts, walked, written}
 use Rattle.definitions.proofs.RowLaws.{listed}
 use Rattle.definitions.proofs.LogSteps.{restOf, keptAfter}
-use Rattle.agreement.proofs.Agreeing.{no-bit}
 use Rattle.writing.specs.Walks.{addedIn, addedPiece, addedOctets, nextOf, knownPiece, knownPlace, pieceOf, placeAfter, leftOf}
 
 module _ (m : Filled) (s : ℕ) where
@@ -33,7 +31,7 @@ module _ (m : Filled) (s : ℕ) where
     unfolding addedPiece
     piece-not e = rw e
 
-  added-step : (k n : ℕ) → firsts m (addedIn s k (suc n)) ≡ addedPiece m s k ++ firsts m (addedIn s (suc k) n)
+  pub added-step : (k n : ℕ) → firsts m (addedIn s k (suc n)) ≡ addedPiece m s k ++ firsts m (addedIn s (suc k) n)
   unfolding addedPiece addedIn firsts
   added-step k n = by (bit k s)
     where
@@ -43,17 +41,6 @@ module _ (m : Filled) (s : ℕ) where
       by : (b : Bool) → firsts m (pick b (k ∷ rest) rest) ≡ pick b (elementAt m k (firstIei (m .table) k)) [] ++ firsts m rest
       by true = refl
       by false = refl
-
-  pub added-next : (k to : ℕ) → k < to → addedOctets m s k to ≡ addedPiece m s k ++ addedOctets m s (k + 1) to
-  unfolding addedOctets
-  added-next k to h =
-      let next : to - k ≡ suc (to - (k + 1)) = omega arith in
-      ap (λ (n : ℕ). firsts m (addedIn s k n)) next ∙ added-step k (to - (k + 1))
-      ∙ ap (λ (j : ℕ). addedPiece m s k ++ firsts m (addedIn s j (to - (k + 1)))) (sym (add-one k))
-
-  pub added-end : (k to : ℕ) → to ≤ k → addedOctets m s k to ≡ []
-  unfolding addedOctets addedIn firsts
-  added-end k to h = let z : to - k ≡ 0 = omega arith in rw z
 
   -- with a place more at the end
   snoc : (k n : ℕ) → firsts m (addedIn s k (suc n)) ≡ firsts m (addedIn s k n) ++ addedPiece m s (k + n)
@@ -213,19 +200,3 @@ same-in s u k (suc n) h = rw (h k (omega arith), same-in s u (suc k) n (λ j l. 
 pub same-octets : (m : Filled) (s u k : ℕ) → ((j : ℕ) → j < k → bit j s ≡ bit j u) → addedOctets m s 0 k ≡ addedOctets m u 0 k
 unfolding addedOctets
 same-octets m s u k h = ap (firsts m) (same-in s u 0 (k - 0) (λ j l. h j (omega arith)))
-
--- a set without places
-none-in : (k n : ℕ) → addedIn 0 k n ≡ []
-unfolding addedIn
-none-in k zero = refl
-none-in k (suc n) = rw (no-bit k) (none-in (suc k) n)
-
-pub none-added : (m : Filled) (s from to : ℕ) → s ≡ 0 → addedOctets m s from to ≡ []
-unfolding addedOctets firsts
-none-added m s from to e = rw (e, none-in from (to - from))
-
--- the kept elements, the next one first
-pub next-rest : (ks : List (List ℕ)) → concat ks ≡ nextOf ks ++ concat (restOf ks)
-unfolding concat nextOf restOf
-next-rest [] = refl
-next-rest (e ∷ es) = refl

@@ -5,19 +5,18 @@ use native.Mathlib.Omega.{arith}
 use mathlib.Core.Path.{_≡_, refl, ap, sym, _∙_}
 use mathlib.Core.List.{List, [], _∷_}
 use mathlib.Core.Bool.{Bool, true, false, _&&_, _||_, not, false≢true}
-use mathlib.Core.Option.{Option, none, some}
+use mathlib.Core.Option.{none, some}
 use borrow.Author.Tests.{lt-ltb, le-ltb, ltb-false}
 use lib.ListN.{length, take, length-take}
 use lib.Seq.{take-all}
 use lib.Dec.{ltb}
 use Rattle.definitions.specs.Basic.{among, bit, concat, Answer, answer, over, content, tooLong, mostOctets, mostLog}
 use Rattle.definitions.specs.Rows.{Row, rowsOf, firstIei, firstBad, index}
-use Rattle.definitions.specs.Logs.{Placed, keptList, orderList, orEmpty}
+use Rattle.definitions.specs.Logs.{Placed, keptList, orderList}
 use Rattle.definitions.specs.Values.{placeWidth, valueAt, present, goodValue, anyOf, badRows, apart, unfitAt, valuesTooLong}
 use Rattle.definitions.specs.Writing.{Filled, logged, written, unfit, octetsIn, octetsFor, writingChecks, Wrote, writing}
 use Rattle.definitions.proofs.WriteLaws.{unwritten, write-long, write-rows, write-order, write-kept, write-values, write-unfit, write-short, write-done, loggedLength, walked-length}
 use Rattle.definitions.proofs.Checks.{none-first, either-of}
-use Rattle.definitions.proofs.LogSteps.{keptFrom, KeptAt}
 use Rattle.kept.specs.Kept.{usedOf}
 use Rattle.values.specs.Rows.{sourcesOf}
 use Rattle.agreement.specs.Agreed.{apartBy, Agreeing}
@@ -38,18 +37,6 @@ moved e h = rw e h
 
 -- ---- what was measured
 
-pub kept-begins : (kept : List ℕ) {es : List (List ℕ)} → keptList kept ≡ some es → KeptAt kept 0
-unfolding keptFrom orEmpty
-kept-begins kept e = record { inside = omega arith; formed = e ∙ ap (λ (o : Option (List (List ℕ))). some (orEmpty o)) (sym e) }
-
-pub kept-is : (kept : List ℕ) {es : List (List ℕ)} → keptList kept ≡ some es → keptFrom kept 0 ≡ es
-unfolding keptFrom orEmpty
-kept-is kept e = ap orEmpty e
-
-pub order-begins : (order : List ℕ) {ps : List Placed} → orderList order ≡ some ps → orderList order ≡ some (orEmpty (orderList order))
-unfolding orEmpty
-order-begins order e = e ∙ ap (λ (o : Option (List Placed)). some (orEmpty o)) (sym e)
-
 module _ (m : Filled) (order : List ℕ) (octets s a : ℕ) (t : Tells m order octets s []) (added : AddedAre m s a) where
   -- the set has the added places
   has-added : (k : ℕ) → k < length (m .table) → (present (valueAt (m .rows) k) && not (among k (logged (m .table) (t .ps)))) ≡ bit k a
@@ -65,9 +52,8 @@ module _ (m : Filled) (order : List ℕ) (octets s a : ℕ) (t : Tells m order o
   unfolding loggedLength
   needed ks p q = rw (written-left m a (t .ps) ks has-added) (omega (arith, t .sum, left-length (t .ps) ks))
 
-  pub all-left : (kept : List ℕ) {es : List (List ℕ)} → keptList kept ≡ some es → leftOf m a (orEmpty (orderList order)) 0 (keptFrom kept 0) ≡ written m (t .ps) es
-  unfolding orEmpty
-  all-left kept {es = es} q = rw (t .is, kept-is kept q) (sym (written-left m a (t .ps) es has-added))
+  pub all-left : (ks : List (List ℕ)) → leftOf m a (t .ps) 0 ks ≡ written m (t .ps) ks
+  all-left ks = sym (written-left m a (t .ps) ks has-added)
 
 pub writable : (table rows received set : List ℕ) → firstBad (rowsOf table) ≡ none → unfit (rowsOf table) (sourcesOf received set) rows ≡ none → Writable table rows received set
 unfolding unfit

@@ -1,11 +1,9 @@
 -- Laws that the proofs of this crate cite.
-pub mod Putting
 pub mod Cursor
 pub mod Places
 pub mod Tallying
 pub mod Surveying
-pub mod Walking
-pub mod Runs
+pub mod Walked
 pub mod Encoding
 pub mod Passing
 pub mod SameAnswers

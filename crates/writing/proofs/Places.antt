@@ -6,7 +6,7 @@ use mathlib.Core.Path.{_≡_, refl, ap, sym, _∙_}
 use mathlib.Core.List.{List, []}
 use mathlib.Core.Bool.{true, false, not}
 use mathlib.Core.Option.{none}
-use borrow.Author.Tests.{le-leb, not-false}
+use borrow.Author.Tests.{le-leb}
 use lib.ListN.{length, length-take, length-drop}
 use Rattle.definitions.specs.Rows.{Form, half, fixed, tlv, tlv-e, rowsOf, rowAt, form, formOf, firstBad}
 use Rattle.definitions.specs.Values.{Octets, Value, valueAt, present, sourceOf, octetsAt, fits, unfitAt}
@@ -75,9 +75,6 @@ module _ (table rows received set : List ℕ) (k : ℕ) (row : ValueRow) (e : va
     pub unfit-there : unfitAt (rowsOf table) o rows k ≡ not (fits (form (rowAt (rowsOf table) k)) (row .source) (octetsAt o (valueOf row)))
     unfolding unfitAt present
     unfit-there = rw (← e, le-leb 1 (row .source) one)
-
-    pub fits-there : unfitAt (rowsOf table) o rows k ≡ false → fits (form (rowAt (rowsOf table) k)) (row .source) (octetsAt o (valueOf row)) ≡ true
-    fits-there f = not-false _ (sym unfit-there ∙ f)
 
     -- what an element of a form with a value takes is what the place's takes
     pub length-there : {f : Form} {s : List ℕ} {c : ℕ} → length received ≤ 65535 → length set ≤ 65535 → c ≡ takes f (length s) → f ≡ form (rowAt (rowsOf table) k)

@@ -1,5 +1,4 @@
 -- What the answers of this crate are by the definitions.
-pub mod Puts
 pub mod Walks
 pub mod Sizes
 pub mod Encodes

@@ -1,19 +1,16 @@
--- The walk over the order log, entry by entry: what each writes, and where writing is behind it.
-use Prim.Native.Nat.{ℕ, zero, suc, _+_, _-_, _≤_, _<_, max}
+-- The walk over the order log, entry by entry: what each writes, and the place from which added elements are left behind it.
+use Prim.Native.Nat.{ℕ, zero, suc, _-_, _<_, max}
 use mathlib.Core.Path.{_≡_}
 use mathlib.Core.List.{List, [], _∷_, _++_}
 use mathlib.Core.Bool.{false}
 use mathlib.Core.Option.{Option, none, some}
 use lib.ListN.{length}
-use Rattle.definitions.specs.Basic.{pick, bit, overAt}
+use Rattle.definitions.specs.Basic.{pick, bit}
 use Rattle.definitions.specs.Rows.{Row, rowsOf, firstIei, firstBad, placeOf, index}
 use Rattle.definitions.specs.Values.{unfitAt}
 use Rattle.definitions.specs.Logs.{Placed, knownIei, notKnown, ignored}
 use Rattle.definitions.specs.Writing.{Filled, elementAt, firsts, walked}
-use Rattle.definitions.proofs.LogSteps.{keptFrom, KeptAt, restOf, keptAfter}
 use Rattle.values.specs.Rows.{sourcesOf}
-use Rattle.writing.specs.Puts.{PutAt}
-use Rattle.writing.specs.declared.walk.Pen.{Pen}
 
 -- what is written, as it is lent
 abbrev pub filledOf : List ℕ → List ℕ → List ℕ → List ℕ → Filled
@@ -48,30 +45,6 @@ unfoldable pub nextOf : List (List ℕ) → List ℕ
 nextOf [] = []
 nextOf (e ∷ es) = e
 
--- behind the next kept element
-pub record PutKept (kept : List ℕ) (p : Pen) (before : List ℕ) (r : Pen) (after : List ℕ) : Type 0 where
-  pub put : PutAt (p .at) (nextOf (keptFrom kept (p .kept))) before (r .at) after
-  pub kept-at : KeptAt kept (r .kept)
-  pub rest : keptFrom kept (r .kept) ≡ restOf (keptFrom kept (p .kept))
-  pub further : p .kept < length kept → p .kept < r .kept
-  pub place : r .place ≡ p .place
-
--- the octets of the next n, as far as there are any, and the elements behind them
-unfoldable pub nextsOf : ℕ → List (List ℕ) → List ℕ
-nextsOf zero ks = []
-nextsOf (suc n) ks = nextOf ks ++ nextsOf n (restOf ks)
-
-unfoldable pub behindOf : ℕ → List (List ℕ) → List (List ℕ)
-behindOf zero ks = ks
-behindOf (suc n) ks = behindOf n (restOf ks)
-
--- behind the next n kept elements
-pub record PutRun (kept : List ℕ) (n : ℕ) (p : Pen) (before : List ℕ) (r : Pen) (after : List ℕ) : Type 0 where
-  pub put : PutAt (p .at) (nextsOf n (keptFrom kept (p .kept))) before (r .at) after
-  pub kept-at : KeptAt kept (r .kept)
-  pub rest : keptFrom kept (r .kept) ≡ behindOf n (keptFrom kept (p .kept))
-  pub place : r .place ≡ p .place
-
 -- ---- an entry
 
 -- of a known IEI with a place, or without
@@ -95,27 +68,8 @@ placeAfter t (knownIei i) from = knownPlace from (placeOf t i)
 placeAfter t notKnown from = from
 placeAfter t (ignored r) from = from
 
--- behind an entry
-pub record PutEntry (m : Filled) (set : ℕ) (kept : List ℕ) (e : Placed) (p : Pen) (before : List ℕ) (r : Pen) (after : List ℕ) : Type 0 where
-  pub put : PutAt (p .at) (pieceOf m set e (p .place) (keptFrom kept (p .kept))) before (r .at) after
-  pub kept-at : KeptAt kept (r .kept)
-  pub rest : keptFrom kept (r .kept) ≡ keptAfter e (keptFrom kept (p .kept))
-  pub place : r .place ≡ placeAfter (m .table) e (p .place)
-
 -- ---- the whole walk
 
 -- what is left to write from a place on, by the entries and the kept elements that are left
 unfoldable pub leftOf : Filled → ℕ → List Placed → ℕ → List (List ℕ) → List ℕ
 leftOf m set ps from ks = walked m ps (addedIn set from (length (m .table) - from)) ks
-
--- a piece to be put from a position on, and what is left of it from a later position on: both give the same buffer
-pub record Left (at : ℕ) (piece before : List ℕ) (at′ : ℕ) (piece′ after : List ℕ) : Type 0 where
-  pub long : length after ≡ length before
-  pub room : at′ + length piece′ ≡ at + length piece
-  pub gives : overAt at′ piece′ after ≡ overAt at piece before
-
--- where writing is with entries left: what is left to write is left of the whole
-pub record Writing (m : Filled) (set : ℕ) (kept whole before : List ℕ) (ps : List Placed) (p : Pen) (after : List ℕ) : Type 0 where
-  pub inside : p .place ≤ length (m .table)
-  pub kept-at : KeptAt kept (p .kept)
-  pub left : Left 0 whole before (p .at) (leftOf m set ps (p .place) (keptFrom kept (p .kept))) after

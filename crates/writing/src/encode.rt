@@ -4,7 +4,6 @@ use crate::sizes::Surveyed;
 use crate::sizes::Walked;
 use crate::sizes::logged_len;
 use crate::sizes::survey;
-use crate::walk::write;
 use checks::Checked;
 use checks::check_and_index;
 use kept::MOST_LOG;
@@ -31,6 +30,7 @@ use real::service_request;
 use real::table_p;
 use rows::columns::places;
 use said::places_of;
+use walking::write_walk;
 ghost use mathlib.Core.Path.{_≡_};
 ghost use mathlib.Core.List.{List};
 ghost use mathlib.Core.Bool.{true};
@@ -96,7 +96,7 @@ fn encode_formed<'a>(
             if output.len() < need {
                 return Encoded::NoOutput(need as u64);
             }
-            write(
+            Encoded::Done(write_walk(
                 table,
                 index,
                 rows,
@@ -106,8 +106,7 @@ fn encode_formed<'a>(
                 order,
                 added,
                 output,
-            );
-            Encoded::Done(need)
+            ))
         }
     }
 }

@@ -1,4 +1,3 @@
 // Writing an optional part: its octets from the place rows, the received and the set octets, and the two logs.
 pub mod encode;
 pub mod sizes;
-pub mod walk;
