@@ -1,16 +1,18 @@
 -- What filling arrays says: where they hold what a part may need, what was entered of one that decodes, or the cut.
 -- Each answer is that of the part; where the arrays may not hold all, nothing is said of it.
-use Prim.Native.Nat.{ℕ, _*_, _≤_, _<_}
+use Prim.Native.Nat.{ℕ, _*_, _≤_}
 use native.Mathlib.Omega.{arith}
 use mathlib.Core.Path.{_≡_, refl, ap, _∙_}
 use mathlib.Core.List.{List, append-nil}
 use mathlib.Core.Bool.{Bool, true, false}
-use borrow.Author.Tests.{le-leb, lt-leb}
+use borrow.Author.Tests.{le-leb, leb-true}
 use lib.ListN.{length, replicate, length-replicate, drop-of-length-le}
+use lib.Dec.{leb}
 use Rattle.definitions.specs.Basic.{over, mostOctets}
 use Rattle.definitions.specs.Rows.{Row, rowsOf}
 use Rattle.definitions.specs.Elements.{Parted, elements, cutShort, elementsOf, parted}
 use Rattle.definitions.specs.Reading.{Lent}
+use Rattle.definitions.proofs.RowLaws.{both}
 use Rattle.by_index.specs.ByIndex.{rowsBy}
 use Rattle.filling.specs.Decodes.{lentOf}
 use Rattle.filling.specs.Fills.{done, cut, filledFrom}
@@ -45,25 +47,29 @@ module _ (table index : List ℕ) (start : ℕ) (option : Bool) (part rows kept 
   unfolding filling
   no-room h = rw h (record { answers = refl; rows-are = refl; kept-is = refl; order-is = refl })
 
-  pub long : mostOctets < length part → holds table part l ≡ false
+  -- what a part may need is there
+  pub record Holds : Type 0 where
+    pub short : length part ≤ mostOctets
+    pub rows-room : 4 * length (rowsOf table) ≤ length rows
+    pub kept-room : 2 * length part ≤ length kept
+    pub order-room : 2 * length part ≤ length order
+
+  pub held : (holds table part l ≡ true) → Holds
   unfolding holds
-  long h = rw (lt-leb (length part) mostOctets h)
+  held h =
+      let a = both (leb (length part) mostOctets) _ h in
+      let b = both (leb (4 * length (rowsOf table)) (length rows)) _ (a .1) in
+      let c = both (leb (2 * length part) (length kept)) (leb (2 * length part) (length order)) (b .1) in
+      record {
+        short = leb-true (length part) mostOctets (a .0);
+        rows-room = leb-true (4 * length (rowsOf table)) (length rows) (b .0);
+        kept-room = leb-true (2 * length part) (length kept) (c .0);
+        order-room = leb-true (2 * length part) (length order) (c .1);
+      }
 
   module _ (short : length part ≤ mostOctets) where
-    pub few-rows : length rows < 4 * length (rowsOf table) → holds table part l ≡ false
-    unfolding holds
-    few-rows h = rw (le-leb (length part) mostOctets short, lt-leb (4 * length (rowsOf table)) (length rows) h)
-
     module _ (room : 4 * length (rowsOf table) ≤ length rows) where
-      pub short-kept : length kept < 2 * length part → holds table part l ≡ false
-      unfolding holds
-      short-kept h = rw (le-leb (length part) mostOctets short, le-leb (4 * length (rowsOf table)) (length rows) room, lt-leb (2 * length part) (length kept) h)
-
       module _ (kept-room : 2 * length part ≤ length kept) where
-        pub short-order : length order < 2 * length part → holds table part l ≡ false
-        unfolding holds
-        short-order h = rw (le-leb (length part) mostOctets short, le-leb (4 * length (rowsOf table)) (length rows) room, le-leb (2 * length part) (length kept) kept-room, lt-leb (2 * length part) (length order) h)
-
         module _ (order-room : 2 * length part ≤ length order) where
           fits : holds table part l ≡ true
           unfolding holds

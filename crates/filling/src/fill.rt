@@ -33,7 +33,7 @@ ghost use Rattle.by_index.specs.ByIndex.{rowsBy};
 ghost use Rattle.filling.specs.Fills.{SaidFits, saidEntered, keptOfFound, outcome, filledFrom, ReadyBy, Written};
 
 // No octet.
-pub(crate) fn clear_octets(log: &mut [u8])
+fn clear_octets(log: &mut [u8])
     ensures { λ r. ⌜ now (log .exit) ≡ replicate (length (now (log .entry))) 0 ⌝ }
 {
     let mut i = 0;
@@ -41,6 +41,15 @@ pub(crate) fn clear_octets(log: &mut [u8])
         log[i] = 0;
         i += 1;
     }
+}
+
+// Nothing of a part, in rows and logs.
+pub(crate) fn clear_all(rows: &mut [u32], kept: &mut [u8], order: &mut [u8])
+    ensures { λ r. ⌜ (now (rows .exit) ≡ replicate (length (now (rows .entry))) 0) × (now (kept .exit) ≡ replicate (length (now (kept .entry))) 0) × (now (order .exit) ≡ replicate (length (now (order .entry))) 0) ⌝ }
+{
+    clear_rows(rows, rows.len());
+    clear_octets(kept);
+    clear_octets(order);
 }
 
 // Four numbers of a row from a position on.

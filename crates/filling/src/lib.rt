@@ -2,15 +2,19 @@
 // own, and into lent memory once it is known that there is room.
 mod fill;
 
-use crate::fill::clear_octets;
+use crate::fill::clear_all;
 use crate::fill::fill;
 use crate::fill::fill_elements;
 use measuring::Measured;
 use measuring::measure;
 use octets::MOST_OCTETS;
-use plain_reading::clear_rows;
 use rows::columns::places;
+ghost use mathlib.Core.Path.{_≡_};
+ghost use mathlib.Core.Bool.{_&&_};
+ghost use Prim.Native.Nat.{_*_};
 ghost use lib.ListN.{length};
+ghost use lib.Dec.{leb};
+ghost use Rattle.definitions.specs.Basic.{mostOctets};
 ghost use Rattle.filling.specs.Decodes.{lentOf, Reads};
 ghost use Rattle.filling.specs.Noted.{Fits, noted};
 ghost use Rattle.filling.specs.Filled.{Leaves, filling};
@@ -39,6 +43,25 @@ pub enum Filled {
     NoRoom,
 }
 
+// Whether rows and logs of so many numbers hold what any part of so many octets needs.
+fn may_hold(octets: usize, places: usize, rows: usize, kept: usize, order: usize) -> bool
+    ensures { λ r. ⌜ r ≡ (leb octets mostOctets && (leb (4 * places) rows && (leb (2 * octets) kept && leb (2 * octets) order))) ⌝ }
+{
+    if octets > MOST_OCTETS {
+        return false;
+    }
+    if rows / 4 < places {
+        return false;
+    }
+    if kept / 2 < octets {
+        return false;
+    }
+    if order / 2 < octets {
+        return false;
+    }
+    true
+}
+
 // Every element of a part, into rows and logs that hold what any part of its length needs. Where it is cut short they are cleared.
 pub fn fill_over(
     octets: &[u8],
@@ -52,24 +75,13 @@ pub fn fill_over(
 ) -> Filled
     ensures { λ r. ⌜ Leaves (filling (now (table .entry)) (now (index .entry)) «tlve_start» option (now (octets .entry)) (lentOf (now (rows .entry)) (now (kept .entry)) (now (order .entry)))) r (now (rows .exit)) (now (kept .exit)) (now (order .exit)) ⌝ }
 {
-    if octets.len() > MOST_OCTETS {
-        return Filled::NoRoom;
-    }
-    if rows.len() / 4 < places(table) {
-        return Filled::NoRoom;
-    }
-    if kept.len() / 2 < octets.len() {
-        return Filled::NoRoom;
-    }
-    if order.len() / 2 < octets.len() {
+    if !may_hold(octets.len(), places(table), rows.len(), kept.len(), order.len()) {
         return Filled::NoRoom;
     }
     match fill_elements(octets, table, index, tlve_start, option, rows, kept, order) {
         Measured::Needs(k, o) => Filled::Done(k, o),
         Measured::Cut(start, x, left, missing) => {
-            clear_rows(rows, rows.len());
-            clear_octets(kept);
-            clear_octets(order);
+            clear_all(rows, kept, order);
             Filled::Cut(start, x, left, missing)
         }
     }
