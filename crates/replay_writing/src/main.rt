@@ -5,6 +5,7 @@ use edits::Edited;
 use edits::set_place;
 use findings::Found;
 use findings::optional_ie_order_findings;
+use measured_writing::encode::Encoded;
 use octets::part;
 use part_answers::encoded_said;
 use part_answers::found_said;
@@ -29,9 +30,8 @@ use recorded::string_len;
 use recorded::two;
 use recorded::used;
 use recorded::used_end;
-use writing::encode::Encoded;
-use writing::encode::encode_optional_ies;
-use writing::encode::encode_optional_ies_by;
+use writing::encode_optional_ies;
+use writing_by_number::encode_optional_ies_by;
 
 // Kinds of a case: a setting with a writing behind it, and findings; any other is a writing.
 const SETTING: u8 = 2;

@@ -1,6 +1,6 @@
 -- A message walked by its order log: the pieces that its entries, its added places and its kept elements give, by the numbers of a table and an
 -- index as they are lent, whatever both logs hold. Each piece is put where there is room for it. Of a message that passes every check of
--- writing they are what writing writes: `all-written` of writing.
+-- writing they are what writing writes: `all-written` of measured_writing.
 use Prim.Native.Nat.{ℕ, zero, suc, _+_, _-_, _≤_, _<_, _%_, max}
 use mathlib.Core.Path.{_≡_}
 use mathlib.Core.List.{List, [], _∷_, _++_}

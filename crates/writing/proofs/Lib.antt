@@ -1,9 +1,2 @@
--- Laws that the proofs of this crate cite.
-pub mod Cursor
-pub mod Places
-pub mod Tallying
-pub mod Surveying
-pub mod Walked
-pub mod Encoding
+-- Laws that proofs cite.
 pub mod Passing
-pub mod SameAnswers

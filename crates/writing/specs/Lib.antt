@@ -1,4 +1,2 @@
 -- What the answers of this crate are by the definitions.
-pub mod Walks
-pub mod Sizes
-pub mod Encodes
+pub mod Passing

@@ -13,9 +13,9 @@ use Rattle.promises.proofs.RoundTrip.{round-trip}
 use Rattle.kept.specs.Kept.{usedOf}
 use Rattle.filling.specs.Decodes.{lentOf, Reads}
 use Rattle.filling.specs.declared.Decoded.{Decoded}
-use Rattle.writing.specs.Encodes.{Encodes}
-use Rattle.writing.specs.declared.encode.Encoded.{Encoded}
-use Rattle.writing.proofs.SameAnswers.{same-encoded}
+use Rattle.measured_writing.specs.Encodes.{Encodes}
+use Rattle.measured_writing.specs.declared.encode.Encoded.{Encoded}
+use Rattle.measured_writing.proofs.SameAnswers.{same-encoded}
 
 -- the part's length is answered, and the output begins with the part and is unchanged behind it
 pub record Back (part output : List ℕ) (e : Encoded) (after : List ℕ) : Type 0 where
