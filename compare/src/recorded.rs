@@ -24,6 +24,9 @@
 //! writing of what the edit left, by the same table; after a setting its first value says how many set octets are used, after
 //! a refusal as many as before. On a refusal what was written is empty, but for the notes of 6 and 7. Lent memory beyond what
 //! is recorded has not changed. Before a call, rows, notes, findings and output that are only written to hold anything.
+//!
+//! The programs of the gate have the same cases, a list for each kind but 3; the writing behind a setting is a case of kind 1 there,
+//! and a setting has the order log that it goes by, used, behind its value.
 
 use crate::calls::{Call, Filled, LEFT, Octets, Outcome, Places};
 
@@ -117,6 +120,18 @@ impl Writer {
             }
             _ => unreachable!("readings have a list of their own"),
         }
+    }
+
+    /// A case of settings alone: a setting with the order log that it goes by, and no writing behind it.
+    pub fn setting(&mut self, call: &Call, outcome: &Outcome) {
+        let Call::Set { table, places, order, place, value } = call else { unreachable!("a setting") };
+        self.cases += 1;
+        self.edit(2, table, places, *place);
+        self.string(value);
+        self.used(order);
+        self.answer(outcome);
+        self.numbers(&outcome.rows);
+        self.string(&outcome.logs[0]);
     }
 
     fn writing(&mut self, call: &Call, outcome: &Outcome) {

@@ -49,7 +49,7 @@ fn case(list: &mut Reader<'_>) -> Option<Recorded> {
     };
     let number = list.number(1)? as u32;
     let count = list.number(1)?;
-    let values = (0..count).map(|_| list.number(4)).collect::<Option<Vec<_>>>()?;
+    let values = (0..count).map(|_| list.number(8)).collect::<Option<Vec<_>>>()?;
     let count = list.number(1)?;
     let mut present = Vec::new();
     for _ in 0..count {

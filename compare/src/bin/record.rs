@@ -269,7 +269,7 @@ impl Recorder {
     fn outcome(&mut self, outcome: &Outcome, number: u8, lent_places: usize) {
         self.list.extend([outcome.number as u8, outcome.said().len() as u8]);
         for value in outcome.said() {
-            self.list.extend((*value as u32).to_be_bytes());
+            self.list.extend(value.to_be_bytes());
         }
         let done = outcome.number == 0;
         let places = match (done, number) {

@@ -1,6 +1,6 @@
-//! Records a sample of the oracle's answers to writings, edits, mandatory rows and findings, into recorded-writing.bin, and its
-//! writings, settings and findings, kinds 1, 2 and 6, into crates/replay_writing/stdin too, its mandatory rows, kinds 4 and 5, into
-//! crates/replay_mandatory/stdin. src/recorded.rs describes all three lists.
+//! Records a sample of the oracle's answers to writings, edits, mandatory rows and findings, into recorded-writing.bin, and all but
+//! the clearings into the list of a program of the gate too: writings, also those behind a setting, settings, findings, and readings
+//! and writings of mandatory rows each into one of their own. src/recorded.rs describes all lists.
 
 use std::collections::BTreeMap;
 use std::fs;
@@ -28,8 +28,11 @@ struct Recorder {
     right: Judged<ByRust>,
     random: Random,
     list: Writer,
-    replayed: Writer,
-    replayed_rows: Writer,
+    writings: Writer,
+    settings: Writer,
+    findings: Writer,
+    mandatory: Writer,
+    mandatory_writings: Writer,
     answers: BTreeMap<(&'static str, u32, u64), usize>,
 }
 
@@ -40,8 +43,11 @@ fn main() -> ExitCode {
         tables,
         random: Random::new(1),
         list: Writer::default(),
-        replayed: Writer::default(),
-        replayed_rows: Writer::default(),
+        writings: Writer::default(),
+        settings: Writer::default(),
+        findings: Writer::default(),
+        mandatory: Writer::default(),
+        mandatory_writings: Writer::default(),
         answers: BTreeMap::new(),
     };
     recorder.examples();
@@ -53,8 +59,11 @@ fn main() -> ExitCode {
     }
     let lists = [
         ("recorded-writing.bin", &recorder.list),
-        ("../crates/replay_writing/stdin", &recorder.replayed),
-        ("../crates/replay_mandatory/stdin", &recorder.replayed_rows),
+        ("../crates/replay_writing/stdin", &recorder.writings),
+        ("../crates/replay_settings/stdin", &recorder.settings),
+        ("../crates/replay_findings/stdin", &recorder.findings),
+        ("../crates/replay_mandatory/stdin", &recorder.mandatory),
+        ("../crates/replay_mandatory_writing/stdin", &recorder.mandatory_writings),
     ];
     for (name, list) in lists {
         let path = PathBuf::from(env!("CARGO_MANIFEST_DIR")).join(name);
@@ -109,12 +118,13 @@ impl Recorder {
         let (outcome, wanted) = self.wanted(call);
         if wanted {
             self.list.case(&[(call, &outcome)]);
-            match call {
-                Call::Write { .. } | Call::WriteBy { .. } | Call::Findings { .. } => {
-                    self.replayed.case(&[(call, &outcome)]);
-                }
-                _ => self.replayed_rows.case(&[(call, &outcome)]),
-            }
+            let replayed = match call {
+                Call::Write { .. } | Call::WriteBy { .. } => &mut self.writings,
+                Call::Findings { .. } => &mut self.findings,
+                Call::ReadMandatory { .. } | Call::ReadMandatoryBy { .. } => &mut self.mandatory,
+                _ => &mut self.mandatory_writings,
+            };
+            replayed.case(&[(call, &outcome)]);
         }
     }
 
@@ -141,7 +151,8 @@ impl Recorder {
         let written = writing.on(&self.right);
         self.list.case(&[(edit, &outcome), (&writing, &written)]);
         if matches!(edit, Call::Set { .. }) {
-            self.replayed.case(&[(edit, &outcome), (&writing, &written)]);
+            self.settings.setting(edit, &outcome);
+            self.writings.case(&[(&writing, &written)]);
         }
     }
 

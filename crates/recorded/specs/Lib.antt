@@ -1,3 +1,4 @@
--- What stands in a recorded list, and what lent memory holds after a case.
+-- What stands in a recorded list, its answers, and what lent memory holds after a case.
 pub mod Format
+pub mod Answer
 pub mod Lent

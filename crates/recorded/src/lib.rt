@@ -2,9 +2,10 @@
 // Behind the end of a list there are zeros. crates/replay/README.md has the format.
 ghost use mathlib.Core.Path.{_≡_};
 ghost use Prim.Native.Nat.{_+_, _*_, _≤_};
-ghost use lib.ListN.{getD, take};
+ghost use lib.ListN.{getD, take, replicate};
 ghost use Rattle.recorded.specs.Format.{after, numberFrom, repeatAt, stringEnd, stringLength};
 
+pub mod answer;
 pub mod counts;
 pub mod lent;
 
@@ -14,6 +15,13 @@ pub const LENT_TABLE: u8 = 255;
 use octets::Cursor;
 use octets::Four;
 use octets::Pair;
+
+// A buffer for a whole list.
+pub fn list_buffer() -> [u8; 262144]
+    ensures { λ r. ⌜ r ≡ replicate 262144 0 ⌝ }
+{
+    [0u8; 262144]
+}
 
 pub fn octet(list: &[u8], at: usize) -> u8
     ensures { λ r. ⌜ r ≡ getD (now (list .entry)) at 0 ⌝ }

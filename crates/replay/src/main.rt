@@ -1,6 +1,5 @@
 // Runs the recorded list on standard input through our reading, and prints how many cases there are of each number, how many
 // answers are the recorded ones in number, values and all lent memory, and each case that is not. README.md has the format.
-ghost use Prim.Native.Nat.{_≤_};
 use filling::Decoded;
 use octets::part;
 use part_answers::decoded_said;
@@ -8,16 +7,22 @@ use reading::decode_optional_ies;
 use reading_by_number::decode_optional_ies_by;
 use recorded::LENT_TABLE;
 use recorded::after;
+use recorded::answer::answer_is;
+use recorded::answer_end;
 use recorded::cell;
 use recorded::counts::print_counts;
 use recorded::counts::report;
 use recorded::four;
 use recorded::front;
-use recorded::lent::LENT;
 use recorded::lent::LENT_NUMBER;
-use recorded::lent::get_numbers;
-use recorded::lent::get_string;
+use recorded::lent::lent_numbers;
+use recorded::lent::lent_octets;
+use recorded::lent::numbers_at;
+use recorded::lent::numbers_fit;
 use recorded::lent::output_is;
+use recorded::lent::string_at;
+use recorded::lent::string_fits;
+use recorded::list_buffer;
 use recorded::number;
 use recorded::numbers_end;
 use recorded::octet;
@@ -39,10 +44,7 @@ struct Case {
     places_at: usize,
     kept_at: usize,
     order_at: usize,
-}
-
-fn behind_values(list: &[u8], at: usize) -> usize {
-    after(at, 2 + 4 * (octet(list, after(at, 1)) as usize))
+    end: usize,
 }
 
 fn behind_places(list: &[u8], at: usize) -> usize {
@@ -54,8 +56,9 @@ fn case_at(list: &[u8], at: usize) -> Case {
     let room_at = numbers_end(list, table_at);
     let part_at = after(room_at, 10);
     let said_at = string_end(list, part_at);
-    let places_at = behind_values(list, said_at);
+    let places_at = answer_end(list, said_at);
     let kept_at = behind_places(list, places_at);
+    let order_at = string_end(list, kept_at);
     Case {
         table: octet(list, at),
         start: octet(list, after(at, 1)),
@@ -68,7 +71,8 @@ fn case_at(list: &[u8], at: usize) -> Case {
         said_at: said_at,
         places_at: places_at,
         kept_at: kept_at,
-        order_at: string_end(list, kept_at),
+        order_at: order_at,
+        end: string_end(list, order_at),
     }
 }
 
@@ -158,37 +162,15 @@ fn rows_written(list: &[u8], c: Case) -> usize {
     table_rows(c.table, two(list, c.table_at))
 }
 
-// ---- the answer
+// ---- a case
 
-// Whether a value is the recorded one there, where the answer has it.
-fn value_is(list: &[u8], at: usize, is_there: bool, x: u64) -> bool {
-    !is_there || four(list, at) as u64 == x
-}
-
-fn values_are(list: &[u8], at: usize, values: &[u64; 5]) -> bool {
-    value_is(list, at, values[0] > 0, values[1])
-        && value_is(list, after(at, 4), values[0] > 1, values[2])
-        && value_is(list, after(at, 8), values[0] > 2, values[3])
-        && value_is(list, after(at, 12), values[0] > 3, values[4])
-}
-
-// Whether the number, how many values it has, and these are the recorded ones.
 fn said_is(list: &[u8], at: usize, said: Decoded) -> bool {
     let mut values = [0u64; 5];
     let number = decoded_said(said, &mut values);
-    octet(list, at) as u32 == number
-        && octet(list, after(at, 1)) as u64 == values[0]
-        && values_are(list, after(at, 2), &values)
+    answer_is(list, at, number, &values)
 }
 
-// ---- a case
-
-fn logs_are(list: &[u8], c: Case, kept: &[u8; 70000], order: &[u8; 70000]) -> bool {
-    output_is(list, c.kept_at, part(kept, 0, c.kept))
-        && output_is(list, c.order_at, part(order, 0, c.order))
-}
-
-fn rows_are(list: &[u8], c: Case, rows: &[u32; 192]) -> bool {
+fn rows_are(list: &[u8], c: Case, rows: &[u32; 256]) -> bool {
     places_are(
         list,
         c.places_at,
@@ -198,36 +180,45 @@ fn rows_are(list: &[u8], c: Case, rows: &[u32; 192]) -> bool {
     )
 }
 
+fn logs_are(list: &[u8], c: Case, kept: &[u8; 70000], order: &[u8; 70000]) -> bool {
+    output_is(list, c.kept_at, part(kept, 0, c.kept))
+        && output_is(list, c.order_at, part(order, 0, c.order))
+}
+
 // A part by the table of its case, with all of its lent memory.
 fn read(
-    number: u8,
-    start: u8,
-    option: bool,
+    c: Case,
     octets: &[u8],
     table: &[u32],
     rows: &mut [u32],
     kept: &mut [u8],
     order: &mut [u8],
 ) -> Decoded {
-    if number == LENT_TABLE {
-        return decode_optional_ies(octets, table, start, option, rows, kept, order);
+    if c.table == LENT_TABLE {
+        return decode_optional_ies(octets, table, c.start, c.option, rows, kept, order);
     }
-    decode_optional_ies_by(number as u32, octets, option, rows, kept, order)
+    decode_optional_ies_by(c.table as u32, octets, c.option, rows, kept, order)
 }
 
-fn run_table(list: &[u8], c: Case, octets: &[u8], table: &[u32]) -> bool
-    requires { ⌜ (c .rows ≤ 192) × (c .kept ≤ 70000) × (c .order ≤ 70000) ⌝ }
-{
+// A case in what there is room for; one that asks for more is not the recorded one.
+fn run_part(list: &[u8], c: Case, octets: &[u8], table: &[u32]) -> bool {
     let n = c.rows;
     let k = c.kept;
     let o = c.order;
-    let mut rows = [LENT_NUMBER; 192];
-    let mut kept = [LENT; 70000];
-    let mut order = [LENT; 70000];
+    if n > 256 {
+        return false;
+    }
+    if k > 70000 {
+        return false;
+    }
+    if o > 70000 {
+        return false;
+    }
+    let mut rows = lent_numbers();
+    let mut kept = lent_octets();
+    let mut order = lent_octets();
     let said = read(
-        c.table,
-        c.start,
-        c.option,
+        c,
         octets,
         table,
         &mut rows[..n],
@@ -237,35 +228,21 @@ fn run_table(list: &[u8], c: Case, octets: &[u8], table: &[u32]) -> bool
     said_is(list, c.said_at, said) && rows_are(list, c, &rows) && logs_are(list, c, &kept, &order)
 }
 
-fn run_part(list: &[u8], c: Case, octets: &[u8]) -> bool
-    requires { ⌜ (c .rows ≤ 192) × (c .kept ≤ 70000) × (c .order ≤ 70000) ⌝ }
-{
-    let mut table = [0u32; 64];
-    get_numbers(list, c.table_at, &mut table);
-    run_table(list, c, octets, front(&table, two(list, c.table_at)))
-}
-
-// A case in what there is room for; one that asks for more is not the recorded one.
 fn run_case(list: &[u8], c: Case) -> bool {
-    let n = string_len(list, c.part_at);
-    if n > 65536 {
+    if !numbers_fit(list, c.table_at) {
         return false;
     }
-    if two(list, c.table_at) > 64 {
+    if !string_fits(list, c.part_at) {
         return false;
     }
-    if c.rows > 192 {
-        return false;
-    }
-    if c.kept > 70000 {
-        return false;
-    }
-    if c.order > 70000 {
-        return false;
-    }
-    let mut octets = [0u8; 65536];
-    get_string(list, c.part_at, &mut octets);
-    run_part(list, c, part(&octets, 0, n))
+    let octets = string_at(list, c.part_at);
+    let table = numbers_at(list, c.table_at);
+    run_part(
+        list,
+        c,
+        part(&octets, 0, string_len(list, c.part_at)),
+        front(&table, two(list, c.table_at)),
+    )
 }
 
 // All cases.
@@ -276,7 +253,7 @@ fn run_list(list: &[u8], counts: &mut [u32]) -> usize {
     while k < n {
         let c = case_at(list, at);
         report(counts, octet(list, c.said_at), run_case(list, c), k);
-        at = string_end(list, c.order_at);
+        at = c.end;
         k += 1;
     }
     at
@@ -289,7 +266,7 @@ fn run_all(list: &[u8]) {
 }
 
 fn main() {
-    let mut list = [0u8; 262144];
+    let mut list = list_buffer();
     let n = io::read_full(0, &mut list);
     run_all(part(&list, 0, n));
 }

@@ -32,9 +32,6 @@ run-case-requires c κs = search needs
 report-requires : tie.Need-report-requires Inv-loop μ-loop
 report-requires c κs = search needs
 
-string-end-requires : tie.Need-string-end-requires Inv-loop μ-loop
-string-end-requires c κs = search needs
-
 add-k : tie.Need-add-k Inv-loop μ-loop
 add-k c = search needs
 
@@ -62,7 +59,6 @@ run-list-spec =
     octet-requires
     run-case-requires
     report-requires
-    string-end-requires
     add-k
     loop-less
     loop-again

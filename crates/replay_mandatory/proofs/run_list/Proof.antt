@@ -26,8 +26,8 @@ case-at-requires c κs = search needs
 octet-requires : tie.Need-octet-requires Inv-loop μ-loop
 octet-requires c κs = search needs
 
-run-any-requires : tie.Need-run-any-requires Inv-loop μ-loop
-run-any-requires c κs = search needs
+run-case-requires : tie.Need-run-case-requires Inv-loop μ-loop
+run-case-requires c κs = search needs
 
 report-requires : tie.Need-report-requires Inv-loop μ-loop
 report-requires c κs = search needs
@@ -57,7 +57,7 @@ run-list-spec =
     loop-holds
     case-at-requires
     octet-requires
-    run-any-requires
+    run-case-requires
     report-requires
     add-k
     loop-less

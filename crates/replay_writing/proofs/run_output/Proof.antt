@@ -1,7 +1,8 @@
--- `run_output` lends the front of an array.
+-- `run_output` lends the front of a buffer.
 -- The front is as long as was tested.
 use native.Mathlib.Omega.{arith}
-use lib.ListN.{length-take}
+use Rattle.recorded.specs.Lent.{lentOctet}
+use Rattle.recorded.proofs.Laws.{lent-front}
 use borrow.Author.Needs.{needs}
 use Rattle.replay_writing.proofs.run_output.Statement.{statement}
 use Rattle.replay_writing.proofs.run_output.Tie as tie
@@ -12,11 +13,14 @@ number-requires c κs = search needs
 returns : tie.Need-returns
 returns c = search needs
 
+lent-octets-requires : tie.Need-lent-octets-requires
+lent-octets-requires c κs = search needs
+
 array-borrow-prefix-output : tie.Need-array-borrow-prefix-output
 array-borrow-prefix-output c = search needs
 
 slice-aggregate-write : tie.Need-slice-aggregate-write
-slice-aggregate-write c = simp length-take (omega arith)
+slice-aggregate-write c = lent-front 70000 (c .before .before .before .number .result) lentOctet (c .before .lent-octets .ensures) (omega arith)
 
 write-requires : tie.Need-write-requires
 write-requires c κs = search needs
@@ -33,6 +37,7 @@ run-output-spec =
     (tie.spec
     number-requires
     returns
+    lent-octets-requires
     array-borrow-prefix-output
     slice-aggregate-write
     write-requires
