@@ -43,10 +43,11 @@ impl Sides {
 /// differently.
 type Family = fn(&Sides) -> Result<(), String>;
 
-const FAMILIES: [(&str, Family); 9] = [
+const FAMILIES: [(&str, Family); 10] = [
     ("reading", reading::reading),
     ("lengths", reading::lengths),
     ("writing", writing::writing),
+    ("sequence", writing::sequence),
     ("mandatory", mandatory::mandatory),
     ("findings", findings::findings),
     ("values", values::values),

@@ -59,14 +59,39 @@ fn messages(tables: &[Vec<u32>]) -> Vec<Written> {
     messages
 }
 
+/// Messages whose order log names a place below one that it named before.
+fn out_of_sequence(tables: &[Vec<u32>]) -> Vec<Written> {
+    let mut messages = Vec::new();
+    for number in 1..=6 {
+        let table = &tables[number];
+        let all = every(Model::new(table).rows());
+        let mut last_first = all.clone();
+        last_first.rotate_right(1);
+        let backward: Vec<u8> = all.iter().rev().flatten().copied().collect();
+        for (what, part) in [("the last element first", last_first.concat()), ("backward", backward)] {
+            messages.push(Written { name: format!("{}, {what}", NAMES[number]), number, filled: read(table, part) });
+        }
+    }
+    messages
+}
+
 /// All lines of writing; the name of a message that the sides write differently.
 pub fn writing(sides: &Sides) -> Result<(), String> {
+    lines_of(sides, "writing", messages(&sides.tables.optional))
+}
+
+/// The same of messages that came out of sequence.
+pub fn sequence(sides: &Sides) -> Result<(), String> {
+    lines_of(sides, "sequence", out_of_sequence(&sides.tables.optional))
+}
+
+fn lines_of(sides: &Sides, family: &'static str, messages: Vec<Written>) -> Result<(), String> {
     let Some(ours) = sides.ours.writing() else {
         println!("libnas.a is linked without writing");
         return Ok(());
     };
-    let mut lines = Lines::new("writing");
-    for written in messages(&sides.tables.optional) {
+    let mut lines = Lines::new(family);
+    for written in messages {
         let bench = Bench::new(sides, ours, &written)?;
         for way in WAYS {
             lines.line(&written.name, bench.octets, way.words(), bench.times(way));
