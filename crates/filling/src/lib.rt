@@ -75,7 +75,13 @@ pub fn fill_over(
 ) -> Filled
     ensures { λ r. ⌜ Leaves (filling (now (table .entry)) (now (index .entry)) «tlve_start» option (now (octets .entry)) (lentOf (now (rows .entry)) (now (kept .entry)) (now (order .entry)))) r (now (rows .exit)) (now (kept .exit)) (now (order .exit)) ⌝ }
 {
-    if !may_hold(octets.len(), places(table), rows.len(), kept.len(), order.len()) {
+    if !may_hold(
+        octets.len(),
+        places(table),
+        rows.len(),
+        kept.len(),
+        order.len(),
+    ) {
         return Filled::NoRoom;
     }
     match fill_elements(octets, table, index, tlve_start, option, rows, kept, order) {

@@ -78,6 +78,16 @@ elements-fuel zero g s h k = sym (elements-stopped g s (none-there s (omega arit
 elements-fuel (suc f) zero s h k = elements-stopped (suc f) s (none-there s (omega arith))
 elements-fuel (suc f) (suc g) s h k = elements-rest f g s (entryOf s (countAt s)) refl h k (λ t. elements-fuel f g t)
 
+-- each takes an octet or more
+elements-count : (f : ℕ) (s : List ℕ) → length (elementsF f s) ≤ f
+unfolding elementsF elementsThen
+elements-count zero s = omega arith
+elements-count (suc f) s = by (entryOf s (countAt s)) (λ t. elements-count f t)
+  where
+    by : (o : Option Count) → ((t : List ℕ) → length (elementsF f t) ≤ f) → length (elementsThen s (elementsF f) o) ≤ suc f
+    by none r = omega arith
+    by (some c) r = omega (arith, r (drop (c .value) (drop (c .took) s)))
+
 module _ (kept : List ℕ) (at : ℕ) where
   abbrev s : List ℕ
   s = drop at kept
@@ -85,6 +95,10 @@ module _ (kept : List ℕ) (at : ℕ) where
   pub elements-none : entryOf (drop at kept) (countAt (drop at kept)) ≡ none → elementsFrom kept at ≡ []
   unfolding elementsFrom
   elements-none e = elements-stopped (length (drop at kept)) (drop at kept) e
+
+  pub elements-few : length (elementsFrom kept at) ≤ length kept
+  unfolding elementsFrom
+  elements-few = omega (arith, elements-count (length s) s, length-drop at kept)
 
   pub elements-over : length kept ≤ at → elementsFrom kept at ≡ []
   elements-over h = elements-none (none-there (drop at kept) (simp length-drop (omega arith)))

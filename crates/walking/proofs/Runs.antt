@@ -51,11 +51,6 @@ two-of (x ∷ y ∷ z ∷ s) d h g = absurd (omega arith)
 
 -- ---- the kept elements, one turn
 
-pub next-rest : (ks : List (List ℕ)) → ks ≡ nextOf ks ++ restOf ks
-unfolding nextOf restOf
-next-rest [] = refl
-next-rest (e ∷ es) = refl
-
 module _ (n i : ℕ) (h : i < n) (ks : List (List ℕ)) where
   turn : n - i ≡ suc (n - (i + 1))
   turn = omega arith
@@ -67,6 +62,18 @@ module _ (n i : ℕ) (h : i < n) (ks : List (List ℕ)) where
   pub behind-turn : behindOf (n - i) ks ≡ behindOf (n - (i + 1)) (restOf ks)
   unfolding behindOf
   behind-turn = rw turn
+
+-- where none is left, and where there are no more than so many
+pub nexts-none : (n : ℕ) → (nextsOf n [] ≡ []) × (behindOf n [] ≡ [])
+unfolding nextsOf behindOf nextOf restOf
+nexts-none zero = (refl, refl)
+nexts-none (suc n) = nexts-none n
+
+pub nexts-all : (n : ℕ) (ks : List (List ℕ)) → length ks ≤ n → nextsOf n ks ≡ ks
+unfolding nextsOf nextOf restOf
+nexts-all n [] h = nexts-none n .0
+nexts-all zero (e ∷ ks) h = absurd (omega arith)
+nexts-all (suc n) (e ∷ ks) h = ap (λ (es : List (List ℕ)). e ∷ es) (nexts-all n ks (omega arith))
 
 -- ---- the added places
 

@@ -254,7 +254,8 @@ fn asides(order: &[u8]) -> usize
     n
 }
 
-// The next n kept elements, as far as there are any: those of a run of entries, in a loop that has nothing else to hold.
+// The next n kept elements, as far as there are any: those of a run of entries, or all. Called for both, it stays a function of its own,
+// in whose loop there is nothing else to hold.
 fn put_run(kept: &[u8], pen: Pen, n: usize, output: &mut [u8]) -> Pen
     requires { ⌜ (pen .kept ≤ length (now kept)) × (pen .at ≤ length (now output)) ⌝ }
     ensures { λ r. ⌜ RunLaid (now (kept .entry)) n pen (now (output .entry)) r (now (output .exit)) ⌝ }
@@ -262,6 +263,9 @@ fn put_run(kept: &[u8], pen: Pen, n: usize, output: &mut [u8]) -> Pen
     let mut p = pen;
     let mut i = 0;
     while i < n {
+        if p.kept >= kept.len() {
+            return p;
+        }
         p = put_kept(kept, p, output);
         i += 1;
     }
@@ -311,10 +315,7 @@ fn put_left(kept: &[u8], pen: Pen, output: &mut [u8]) -> usize
     requires { ⌜ (pen .kept ≤ length (now kept)) × (pen .at ≤ length (now output)) ⌝ }
     ensures { λ r. ⌜ Lays (elementsFrom (now (kept .entry)) (pen .kept)) (pen .at) (now (output .entry)) r (now (output .exit)) ⌝ }
 {
-    let mut p = pen;
-    while p.kept < kept.len() {
-        p = put_kept(kept, p, output);
-    }
+    let p = put_run(kept, pen, kept.len(), output);
     p.at
 }
 

@@ -2,13 +2,12 @@
 -- The measure is how many places are left.
 use Prim.Native.Nat.{_+_, _-_}
 use native.Mathlib.Omega.{arith}
-use mathlib.Core.List.{[], _∷_, _++_}
+use mathlib.Core.List.{[], _∷_}
 use Rattle.seen.specs.Seen.{setOf}
 use Rattle.placing.specs.Pieces.{lentOf}
 use Rattle.walking.specs.Walks.{addedPiece, addedBy, Going}
 use Rattle.walking.proofs.Laying.{going-begun, going-as, going-on, going-end}
 use Rattle.walking.proofs.Runs.{added-next, added-over}
-use borrow.Author.Needs.{needs}
 use Rattle.walking.proofs.put_added.Statement.{statement}
 use Rattle.walking.proofs.put_added.Tie as tie
 

@@ -2,9 +2,8 @@
 -- As `put_place` does, by the set.
 use Prim.Native.Nat.{_%_}
 use native.Mathlib.Omega.{arith}
-use mathlib.Core.Path.{_≡_, ap, sym, _∙_}
+use mathlib.Core.Path.{ap, sym, _∙_}
 use borrow.Author.Tests.{not-true, not-false}
-use Rattle.rows.specs.Numbers.{numbersAt}
 use Rattle.rows.specs.declared.columns.Numbers.{Numbers}
 use Rattle.seen.specs.Seen.{setOf}
 use Rattle.placing.specs.Pieces.{lentOf}

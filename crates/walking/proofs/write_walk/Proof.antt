@@ -1,7 +1,6 @@
 -- `write_walk` writes the entries, then the added elements that are left, then the kept ones.
 -- What is left behind each is what the next puts.
 use Prim.Native.Nat.{_-_}
-use mathlib.Core.Path.{_≡_}
 use lib.ListN.{length}
 use Rattle.definitions.specs.Rows.{rowsOf}
 use Rattle.seen.specs.Seen.{setOf}
