@@ -1,33 +1,35 @@
 -- The order log measured an entry at a time: with what is left the tally is that of the whole log.
 -- Each step moves an entry from what is left into the tally; a log that is malformed further on is malformed.
-use Prim.Native.Nat.{ℕ, _+_, _*_, _^_, _≤_, _<_}
+use Prim.Native.Nat.{ℕ, zero, suc, _+_, _*_, _^_, _≤_, _<_}
 use native.Mathlib.Omega.{arith}
 use native.Mathlib.Nat.{div-add-mod'}
 use mathlib.Core.Path.{_≡_, refl, ap, sym, _∙_}
 use mathlib.Core.List.{List, [], _∷_}
 use mathlib.Core.Bool.{Bool, true, false, _||_, false≢true}
 use mathlib.Core.Option.{Option, none, some}
-use borrow.Author.Tests.{lt-ltb}
-use lib.ListN.{length, drop, length-drop}
-use lib.Dec.{eqb}
+use borrow.Author.Tests.{lt-ltb, ltb-true, ltb-false}
+use lib.ListN.{length, getD, drop, length-drop}
+use lib.Seq.{getD-drop}
+use lib.Dec.{eqb, ltb}
 use Rattle.definitions.specs.Basic.{pick, bit, among, isNone}
 use Rattle.definitions.specs.Rows.{Row, form, rowAt, rowsOf, firstBad, placeOf, placeIn}
 use Rattle.definitions.specs.Elements.{including}
 use Rattle.definitions.specs.Values.{valueAt, present, octetsAt}
-use Rattle.definitions.specs.Logs.{Placed, knownIei, notKnown, ignored, Reason, put, orderList, orderEntry, orEmpty}
+use Rattle.definitions.specs.Logs.{Placed, knownIei, notKnown, ignored, Reason, byForm, again, late, put, orderList, orderEntry, orEmpty}
 use Rattle.definitions.specs.Writing.{Filled, encoded, elementAt, logged}
 use Rattle.definitions.proofs.BitLaws.{bit-including}
-use Rattle.definitions.proofs.Orders.{orderFront, order-nil}
+use Rattle.definitions.proofs.Orders.{orderFront, order-nil, asideBy, front-aside}
 use Rattle.definitions.proofs.RowLaws.{listed}
 use Rattle.definitions.proofs.TableLaws.{few-places, index-place}
 use Rattle.definitions.proofs.WriteLaws.{loggedLength}
 use Rattle.definitions.proofs.LogSteps.{OrderAt, orderFrom, order-split, order-next, order-never, order-over}
+use Rattle.order.proofs.Entries.{one-length}
 use Rattle.seen.specs.Seen.{setOf, seenOf, includingPlace}
 use Rattle.seen.specs.declared.Seen.{Seen}
 use Rattle.agreement.specs.Agreed.{knownSet, entrySet, entryApart, Agreeing}
 use Rattle.agreement.proofs.Agreeing.{no-bit, agreeing-begun, agreeing-step}
 use Rattle.measured_writing.specs.Walks.{IndexIs}
-use Rattle.measured_writing.specs.Sizes.{placeLength, mostIe, knownLength, entryLength, Tallied, Tells, foundBy, LoggedBy}
+use Rattle.measured_writing.specs.Sizes.{placeLength, mostIe, knownLength, entryLength, Tallied, Tells, foundBy, LoggedBy, AsidesAre}
 use Rattle.measured_writing.specs.declared.sizes.Tally.{Tally}
 use Rattle.measured_writing.proofs.Places.{encoded-length}
 
@@ -220,3 +222,49 @@ module _ (m : Filled) (order : List ℕ) where
         by : (o : Option (List Placed)) → ByLog m order at t apart o → LoggedBy m order (foundBy t apart)
         by (some ps) g = logging-ended m order at t apart g h
         by none g = absurd (false≢true (ap isNone (sym (order-nil (drop at order) (simp length-drop (omega arith))) ∙ g)))
+
+-- ---- a run of entries of no known element
+
+pub asides-more : (order : List ℕ) (n : ℕ) → AsidesAre order n → 1 ≤ getD order n 0 → getD order n 0 ≤ 4 → AsidesAre order (n + 1)
+asides-more order n f g h j k = by (ltb j n) refl
+  where
+    by : (b : Bool) → ltb j n ≡ b → (1 ≤ getD order j 0) × (getD order j 0 ≤ 4)
+    by true e = f j (ltb-true j n e)
+    by false e = let l = ltb-false j n e in let z : j ≡ n = omega arith in rw z (g, h)
+
+-- each is an octet, and changes nothing
+record Idle (m : Filled) (p : Placed) : Type 0 where
+  octet : length (orderEntry p) ≡ 1
+  tally : (t : Tally) → Tallied m p t t
+  apart : (set : ℕ) (x : Bool) → entryApart (m .table) (m .rows) p set x ≡ x
+
+idle-unknown : (m : Filled) → Idle m notKnown
+unfolding orderEntry entryApart
+idle-unknown m = record { octet = refl; tally = tallied-unknown m; apart = λ set x. refl }
+
+idle-ignored : (m : Filled) (r : Reason) → Idle m (ignored r)
+unfolding entryApart
+idle-ignored m r = record { octet = one-length r; tally = λ t. tallied-ignored m t r; apart = λ set x. refl }
+
+idle : (m : Filled) (x : ℕ) → Idle m (asideBy x)
+unfolding asideBy
+idle m zero = idle-unknown m
+idle m (suc zero) = idle-unknown m
+idle m (suc (suc zero)) = idle-ignored m byForm
+idle m (suc (suc (suc zero))) = idle-ignored m again
+idle m (suc (suc (suc (suc n)))) = idle-ignored m late
+
+module _ (m : Filled) (order : List ℕ) (t : Tally) (apart : Bool) (passes : firstBad (m .table) ≡ none) where
+  pub walking-run : (n at : ℕ) → Walking m order at t apart → at + n ≤ length order → AsidesAre (drop at order) n → Walking m order (at + n) t apart
+  walking-run zero at w h g = let z : at + 0 ≡ at = omega arith in rw z w
+  walking-run (suc n) at w h g =
+      let x : ℕ = getD (drop at order) 0 0 in
+      let l : at < length order = omega arith in
+      let b = g 0 (omega arith) in
+      let i = idle m x in
+      let f = front-aside (drop at order) x (simp length-drop (omega arith)) refl (b .0) (b .1) in
+      let one = walking-step m order at t apart w passes l f (i .tally t) (sym (i .apart (setOf (t .seen)) apart)) in
+      let more : AsidesAre (drop (at + 1) order) n = λ j k. let z : at + 1 + j ≡ at + suc j = omega arith in
+      rw (getD-drop (at + 1) order j 0, z, ← getD-drop at order (suc j) 0) (g (suc j) (omega arith)) in
+      let z : at + 1 + n ≡ at + suc n = omega arith in
+      rw z at (walking-run n (at + 1) (rw (i .octet) at one) (omega arith) more)

@@ -4,7 +4,7 @@ use mathlib.Core.Path.{_≡_}
 use mathlib.Core.List.{List, []}
 use mathlib.Core.Bool.{Bool, true, false, _&&_, _||_, not}
 use mathlib.Core.Option.{Option, none, some}
-use lib.ListN.{length}
+use lib.ListN.{length, getD}
 use Rattle.definitions.specs.Basic.{pick, bit, among}
 use Rattle.definitions.specs.Rows.{Form, half, fixed, tlv, tlv-e, rowsOf, firstIei, firstBad, placeOf, index}
 use Rattle.definitions.specs.Values.{valueAt, present, goodValue, anyOf, unfitAt}
@@ -53,6 +53,10 @@ unfoldable pub entryLength : Filled → Placed → ℕ
 entryLength m (knownIei i) = knownLength m (placeOf (m .table) i)
 entryLength m notKnown = 0
 entryLength m (ignored r) = 0
+
+-- the first n octets of a log are from 1 to 4, each an entry of no known element
+abbrev pub AsidesAre : List ℕ → ℕ → Type 0
+AsidesAre order n = (j : ℕ) → j < n → (1 ≤ getD order j 0) × (getD order j 0 ≤ 4)
 
 -- with one entry more
 pub record Tallied (m : Filled) (p : Placed) (t r : Tally) : Type 0 where

@@ -29,7 +29,7 @@ ghost use Rattle.seen.specs.Seen.{setOf};
 ghost use Rattle.rows.specs.Forms.{formAs};
 ghost use Rattle.agreement.specs.Agreed.{entryApart};
 ghost use Rattle.measured_writing.specs.Walks.{filledOf, IndexIs};
-ghost use Rattle.measured_writing.specs.Sizes.{takes, placeLength, mostIe, Sized, Tallied, foundBy, WalkedBy, addedTo, wrongAt, LookedAt, SurveyedBy};
+ghost use Rattle.measured_writing.specs.Sizes.{takes, placeLength, mostIe, Sized, Tallied, foundBy, WalkedBy, addedTo, wrongAt, LookedAt, SurveyedBy, AsidesAre};
 
 // The octets of the added elements, and their places.
 pub struct Tally {
@@ -147,6 +147,24 @@ fn entry_apart(
     }
 }
 
+// How many entries at the front of a log are none of a known element: each is one octet, from 1 to 4.
+fn asides(order: &[u8]) -> usize
+    ensures { λ r. ⌜ (r ≤ length (now (order .entry))) × AsidesAre (now (order .entry)) r ⌝ }
+{
+    let mut n = 0;
+    while n < order.len() {
+        let x = order[n];
+        if x == 0 {
+            return n;
+        }
+        if x > 4 {
+            return n;
+        }
+        n += 1;
+    }
+    n
+}
+
 // The whole order log.
 pub(crate) fn logged_len<'a>(
     table: &[u32],
@@ -166,15 +184,20 @@ pub(crate) fn logged_len<'a>(
     };
     let mut apart = false;
     while at < order.len() {
-        match front_at(&order[at..]) {
-            Front::Is(entry) => {
-                let seen = t.seen;
-                apart = entry_apart(table, index, rows, seen, apart, entry);
-                t = with_entry(table, index, rows, received, set, t, entry);
-                at += entry_len(entry);
-            }
-            Front::Not => {
-                return Walked::Malformed;
+        let n = asides(&order[at..]);
+        if n > 0 {
+            at += n;
+        } else {
+            match front_at(&order[at..]) {
+                Front::Is(entry) => {
+                    let seen = t.seen;
+                    apart = entry_apart(table, index, rows, seen, apart, entry);
+                    t = with_entry(table, index, rows, received, set, t, entry);
+                    at += entry_len(entry);
+                }
+                Front::Not => {
+                    return Walked::Malformed;
+                }
             }
         }
     }
