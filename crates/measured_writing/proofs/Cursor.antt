@@ -12,11 +12,33 @@ use lib.Dec.{ltb}
 use Rattle.definitions.specs.Basic.{pick, bit, among, concat}
 use Rattle.definitions.specs.Rows.{firstIei, firstBad, placeOf}
 use Rattle.definitions.specs.Values.{valueAt, present}
-use Rattle.definitions.specs.Logs.{Placed, knownIei, notKnown, ignored}
+use Rattle.definitions.specs.Logs.{Placed, knownIei, notKnown, ignored, Reason}
 use Rattle.definitions.specs.Writing.{Filled, elementAt, logged, addedFrom, below, notBelow, firsts, walked, written}
 use Rattle.definitions.proofs.RowLaws.{listed}
-use Rattle.definitions.proofs.LogSteps.{restOf, keptAfter}
-use Rattle.measured_writing.specs.Walks.{addedIn, addedPiece, addedOctets, nextOf, knownPiece, knownPlace, pieceOf, placeAfter, leftOf}
+use Rattle.definitions.proofs.LogSteps.{restOf}
+use Rattle.measured_writing.specs.Added.{addedIn, addedOctets}
+
+-- the element of a place, if it is in the set of the added ones
+unfoldable pub addedPiece : Filled → ℕ → ℕ → List ℕ
+addedPiece m set k = pick (bit k set) (elementAt m k (firstIei (m .table) k)) []
+
+-- the next kept element, if there is one
+unfoldable pub nextOf : List (List ℕ) → List ℕ
+nextOf [] = []
+nextOf (e ∷ es) = e
+
+-- what an entry of a known IEI with a place writes, or of one without, and the place from which added elements are left behind it
+abbrev pub knownPiece : Filled → ℕ → ℕ → ℕ → Option ℕ → List ℕ
+knownPiece m set iei from none = []
+knownPiece m set iei from (some k) = addedOctets m set from k ++ elementAt m k iei
+
+abbrev pub knownPlace : ℕ → Option ℕ → ℕ
+knownPlace from none = from
+knownPlace from (some k) = max from k
+
+-- what is left to write from a place on, by the entries and the kept elements that are left
+unfoldable pub leftOf : Filled → ℕ → List Placed → ℕ → List (List ℕ) → List ℕ
+leftOf m set ps from ks = walked m ps (addedIn set from (length (m .table) - from)) ks
 
 module _ (m : Filled) (s : ℕ) where
   -- ---- a place at a time
@@ -147,30 +169,31 @@ module _ (m : Filled) (s : ℕ) where
         not-below-in (n - from) from k (omega arith) ∙ ap (λ (j : ℕ). addedIn s (max from k) (j - max from k)) z in
         rw (a, b) (sym (append-assoc (firsts m (addedIn s from (k - from))) (elementAt m k i) (walked m ps (addedIn s (max from k) (n - max from k)) ks)))
 
-    pub left-step : (p : Placed) → leftOf m s (p ∷ ps) from ks ≡ pieceOf m s p from ks ++ leftOf m s ps (placeAfter (m .table) p from) (keptAfter p ks)
-    unfolding leftOf pieceOf placeAfter keptAfter walked nextOf restOf
-    left-step (knownIei i) = left-known i (placeOf (m .table) i) refl
-    left-step notKnown = aside ks
-      where
-        aside : (ks : List (List ℕ)) → walked m (notKnown ∷ ps) (addedIn s from (n - from)) ks ≡ nextOf ks ++ walked m ps (addedIn s from (n - from)) (restOf ks)
-        aside [] = refl
-        aside (e ∷ es) = refl
-    left-step (ignored r) = aside ks
-      where
-        aside : (ks : List (List ℕ)) → walked m (ignored r ∷ ps) (addedIn s from (n - from)) ks ≡ nextOf ks ++ walked m ps (addedIn s from (n - from)) (restOf ks)
-        aside [] = refl
-        aside (e ∷ es) = refl
+    pub left-step : (i : ℕ) → leftOf m s (knownIei i ∷ ps) from ks ≡ knownPiece m s i from (placeOf (m .table) i) ++ leftOf m s ps (knownPlace from (placeOf (m .table) i)) ks
+    unfolding leftOf walked
+    left-step i = left-known i (placeOf (m .table) i) refl
 
     -- the place stays in the table
     known-inside : (i : ℕ) (o : Option ℕ) → placeOf (m .table) i ≡ o → knownPlace from o ≤ n
     known-inside i none e = inside
     known-inside i (some k) e = let h : k < n = listed (m .table) i k passes e .inside in omega arith
 
-    pub place-inside : (p : Placed) → placeAfter (m .table) p from ≤ n
-    unfolding placeAfter
-    place-inside (knownIei i) = known-inside i (placeOf (m .table) i) refl
-    place-inside notKnown = inside
-    place-inside (ignored r) = inside
+    pub place-inside : (i : ℕ) → knownPlace from (placeOf (m .table) i) ≤ n
+    place-inside i = known-inside i (placeOf (m .table) i) refl
+
+  -- over an entry of no known element
+  abbrev pub Passed : Placed → Type 0
+  Passed p = (ps : List Placed) (from : ℕ) (ks : List (List ℕ)) → leftOf m s (p ∷ ps) from ks ≡ nextOf ks ++ leftOf m s ps from (restOf ks)
+
+  pub left-unknown : Passed notKnown
+  unfolding leftOf walked nextOf restOf
+  left-unknown ps from [] = refl
+  left-unknown ps from (e ∷ es) = refl
+
+  pub left-ignored : (r : Reason) → Passed (ignored r)
+  unfolding leftOf walked nextOf restOf
+  left-ignored r ps from [] = refl
+  left-ignored r ps from (e ∷ es) = refl
 
   -- at the end
   pub left-end : (from : ℕ) (ks : List (List ℕ)) → leftOf m s [] from ks ≡ addedOctets m s from n ++ concat ks

@@ -21,12 +21,13 @@ use Rattle.kept.specs.Kept.{usedOf}
 use Rattle.values.specs.Rows.{sourcesOf}
 use Rattle.agreement.specs.Agreed.{apartBy, Agreeing}
 use Rattle.agreement.proofs.Agreeing.{found-apart, all-apart}
-use Rattle.measured_writing.specs.Walks.{filledOf, Writable, addedIn, addedOctets, leftOf}
+use Rattle.measured_writing.specs.Added.{filledOf, addedIn, addedOctets}
 use Rattle.measured_writing.specs.Sizes.{Tells, AddedAre, wrongAt, wrong}
 use Rattle.measured_writing.specs.Encodes.{encodedAs, Encodes, usedUp, Limited}
 use Rattle.measured_writing.specs.declared.encode.Which.{Which}
 use Rattle.measured_writing.specs.declared.encode.Encoded.{Encoded}
-use Rattle.measured_writing.proofs.Cursor.{written-left}
+use Rattle.measured_writing.proofs.Cursor.{leftOf, written-left}
+use Rattle.measured_writing.proofs.Walked.{Writable}
 
 -- a refusal, and the same of an equal writing
 pub refused : {w : Wrote} {output : List ℕ} {a : Answer} {r : Encoded} → w ≡ unwritten output a → encodedAs r ≡ a → Encodes w r output

@@ -1,4 +1,5 @@
 -- Laws that the proofs of this crate cite.
+pub mod Asides
 pub mod Cursor
 pub mod Places
 pub mod Tallying

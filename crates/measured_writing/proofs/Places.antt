@@ -16,7 +16,7 @@ use Rattle.rows.specs.declared.columns.Numbers.{Numbers}
 use Rattle.rows.proofs.WholeRows.{whole-rows}
 use Rattle.values.specs.Rows.{valueOf, sourcesOf}
 use Rattle.values.specs.declared.row.ValueRow.{ValueRow}
-use Rattle.measured_writing.specs.Walks.{filledOf}
+use Rattle.measured_writing.specs.Added.{filledOf}
 use Rattle.measured_writing.specs.Sizes.{takes, placeLength, mostIe}
 
 pub encoded-length : (f : Form) (iei : ℕ) (s : List ℕ) → length (encoded f iei s) ≡ takes f (length s)

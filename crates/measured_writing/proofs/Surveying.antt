@@ -15,13 +15,13 @@ use Rattle.definitions.specs.Writing.{Filled, firsts, unfit}
 use Rattle.seen.specs.Seen.{setOf, seenOf, includingPlace}
 use Rattle.values.proofs.Showing.{first-here, first-further, first-over}
 use Rattle.agreement.proofs.Agreeing.{no-bit}
-use Rattle.measured_writing.specs.Walks.{addedIn, addedPiece, addedOctets}
+use Rattle.measured_writing.specs.Added.{addedIn, addedOctets}
 use Rattle.measured_writing.specs.Sizes.{mostIe, addedTo, wrongAt, LookedAt, SurveyedBy}
 use Rattle.measured_writing.specs.declared.sizes.Looked.{Looked}
 use Rattle.measured_writing.specs.declared.sizes.Surveyed.{Surveyed}
 use Rattle.measured_writing.specs.declared.sizes.Tally.{Tally}
 use Rattle.measured_writing.proofs.Tallying.{any-iei, bits-with}
-use Rattle.measured_writing.proofs.Cursor.{added-more, same-octets, piece-added, piece-not}
+use Rattle.measured_writing.proofs.Cursor.{addedPiece, added-more, same-octets, piece-added, piece-not}
 
 module _ (m : Filled) (set : ℕ) where
   abbrev n : ℕ

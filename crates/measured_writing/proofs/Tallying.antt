@@ -15,7 +15,7 @@ use Rattle.definitions.specs.Basic.{pick, bit, among, isNone}
 use Rattle.definitions.specs.Rows.{Row, form, rowAt, rowsOf, firstBad, placeOf, placeIn}
 use Rattle.definitions.specs.Elements.{including}
 use Rattle.definitions.specs.Values.{valueAt, present, octetsAt}
-use Rattle.definitions.specs.Logs.{Placed, knownIei, notKnown, ignored, Reason, byForm, again, late, put, orderList, orderEntry, orEmpty}
+use Rattle.definitions.specs.Logs.{Placed, knownIei, notKnown, ignored, Reason, put, orderList, orderEntry, orEmpty}
 use Rattle.definitions.specs.Writing.{Filled, encoded, elementAt, logged}
 use Rattle.definitions.proofs.BitLaws.{bit-including}
 use Rattle.definitions.proofs.Orders.{orderFront, order-nil, asideBy, front-aside}
@@ -23,15 +23,15 @@ use Rattle.definitions.proofs.RowLaws.{listed}
 use Rattle.definitions.proofs.TableLaws.{few-places, index-place}
 use Rattle.definitions.proofs.WriteLaws.{loggedLength}
 use Rattle.definitions.proofs.LogSteps.{OrderAt, orderFrom, order-split, order-next, order-never, order-over}
-use Rattle.order.proofs.Entries.{one-length}
 use Rattle.seen.specs.Seen.{setOf, seenOf, includingPlace}
 use Rattle.seen.specs.declared.Seen.{Seen}
 use Rattle.agreement.specs.Agreed.{knownSet, entrySet, entryApart, Agreeing}
 use Rattle.agreement.proofs.Agreeing.{no-bit, agreeing-begun, agreeing-step}
-use Rattle.measured_writing.specs.Walks.{IndexIs}
+use Rattle.measured_writing.specs.Added.{IndexIs}
 use Rattle.measured_writing.specs.Sizes.{placeLength, mostIe, knownLength, entryLength, Tallied, Tells, foundBy, LoggedBy, AsidesAre}
 use Rattle.measured_writing.specs.declared.sizes.Tally.{Tally}
 use Rattle.measured_writing.proofs.Places.{encoded-length}
+use Rattle.measured_writing.proofs.Asides.{aside-cases, aside-octet}
 
 -- ---- an entry
 
@@ -234,25 +234,12 @@ asides-more order n f g h j k = by (ltb j n) refl
 
 -- each is an octet, and changes nothing
 record Idle (m : Filled) (p : Placed) : Type 0 where
-  octet : length (orderEntry p) ≡ 1
   tally : (t : Tally) → Tallied m p t t
   apart : (set : ℕ) (x : Bool) → entryApart (m .table) (m .rows) p set x ≡ x
 
-idle-unknown : (m : Filled) → Idle m notKnown
-unfolding orderEntry entryApart
-idle-unknown m = record { octet = refl; tally = tallied-unknown m; apart = λ set x. refl }
-
-idle-ignored : (m : Filled) (r : Reason) → Idle m (ignored r)
-unfolding entryApart
-idle-ignored m r = record { octet = one-length r; tally = λ t. tallied-ignored m t r; apart = λ set x. refl }
-
 idle : (m : Filled) (x : ℕ) → Idle m (asideBy x)
-unfolding asideBy
-idle m zero = idle-unknown m
-idle m (suc zero) = idle-unknown m
-idle m (suc (suc zero)) = idle-ignored m byForm
-idle m (suc (suc (suc zero))) = idle-ignored m again
-idle m (suc (suc (suc (suc n)))) = idle-ignored m late
+unfolding entryApart
+idle m = aside-cases (Idle m) (record { tally = tallied-unknown m; apart = λ set x. refl }) (λ r. record { tally = λ t. tallied-ignored m t r; apart = λ set x. refl })
 
 module _ (m : Filled) (order : List ℕ) (t : Tally) (apart : Bool) (passes : firstBad (m .table) ≡ none) where
   pub walking-run : (n at : ℕ) → Walking m order at t apart → at + n ≤ length order → AsidesAre (drop at order) n → Walking m order (at + n) t apart
@@ -267,4 +254,4 @@ module _ (m : Filled) (order : List ℕ) (t : Tally) (apart : Bool) (passes : fi
       let more : AsidesAre (drop (at + 1) order) n = λ j k. let z : at + 1 + j ≡ at + suc j = omega arith in
       rw (getD-drop (at + 1) order j 0, z, ← getD-drop at order (suc j) 0) (g (suc j) (omega arith)) in
       let z : at + 1 + n ≡ at + suc n = omega arith in
-      rw z at (walking-run n (at + 1) (rw (i .octet) at one) (omega arith) more)
+      rw z at (walking-run n (at + 1) (rw (aside-octet x) at one) (omega arith) more)

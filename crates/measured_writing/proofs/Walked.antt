@@ -10,14 +10,14 @@ use borrow.Author.Tests.{le-leb, ltb-true, ltb-false, not-false}
 use lib.ListN.{length, drop}
 use lib.Dec.{ltb}
 use Rattle.definitions.specs.Basic.{pick, bit, over, overAt, concat}
-use Rattle.definitions.specs.Rows.{Row, Form, half, fixed, tlv, tlv-e, rowsOf, rowAt, form, firstIei, placeOf, index}
+use Rattle.definitions.specs.Rows.{Row, Form, half, fixed, tlv, tlv-e, rowsOf, rowAt, form, firstIei, firstBad, placeOf, index}
 use Rattle.definitions.specs.Values.{Octets, valueAt, present, octetsAt, fits, unfitAt}
-use Rattle.definitions.specs.Logs.{Placed, knownIei, notKnown, ignored, Reason, byForm, again, late, put, keptList, orderEntry, orderList}
+use Rattle.definitions.specs.Logs.{Placed, knownIei, put, keptList, orderEntry, orderList}
 use Rattle.definitions.specs.Writing.{Filled, encoded, elementAt, firsts}
 use Rattle.definitions.proofs.RowLaws.{Bears, listed}
 use Rattle.definitions.proofs.TableLaws.{first-bears, index-same}
 use Rattle.definitions.proofs.Orders.{orderFront, orderBy, order-nil, order-front, asideBy, front-aside, front-over}
-use Rattle.definitions.proofs.LogSteps.{put-is, restOf, keptAfter}
+use Rattle.definitions.proofs.LogSteps.{put-is, restOf}
 use Rattle.rows.specs.Numbers.{numbersAt}
 use Rattle.rows.proofs.WholeRows.{whole-rows}
 use Rattle.values.specs.Rows.{sourcesOf}
@@ -27,32 +27,14 @@ use Rattle.walking.specs.Walks.{elementBy, addedPiece as addedPieceBy, addedBy,
 use Rattle.walking.proofs.Laying.{laid-all, concat-append}
 use Rattle.walking.proofs.Elements.{elements-are}
 use Rattle.walking.proofs.Runs.{known-nowhere, known-at, pieces-end}
-use Rattle.order.proofs.Entries.{one-length}
-use Rattle.measured_writing.specs.Walks.{filledOf, Writable, addedIn, addedPiece, addedOctets, nextOf, knownPiece, knownPlace, pieceOf, placeAfter, leftOf}
-use Rattle.measured_writing.proofs.Cursor.{added-step, left-step, place-inside, left-end}
+use Rattle.measured_writing.specs.Added.{filledOf, addedIn, addedOctets}
+use Rattle.measured_writing.proofs.Asides.{aside-cases, aside-octet}
+use Rattle.measured_writing.proofs.Cursor.{addedPiece, nextOf, knownPiece, knownPlace, leftOf, added-step, left-step, place-inside, Passed, left-unknown, left-ignored, left-end}
 
--- an entry that is none of a known element
-record Aside (p : Placed) : Type 0 where
-  octet : length (orderEntry p) ≡ 1
-  piece : (m : Filled) (s from : ℕ) (ks : List (List ℕ)) → pieceOf m s p from ks ≡ nextOf ks
-  place : (t : List Row) (from : ℕ) → placeAfter t p from ≡ from
-  rest : (ks : List (List ℕ)) → keptAfter p ks ≡ restOf ks
-
-aside-unknown : Aside notKnown
-unfolding orderEntry pieceOf placeAfter keptAfter
-aside-unknown = record { octet = refl; piece = λ m s from ks. refl; place = λ t from. refl; rest = λ ks. refl }
-
-aside-ignored : (r : Reason) → Aside (ignored r)
-unfolding pieceOf placeAfter keptAfter
-aside-ignored r = record { octet = one-length r; piece = λ m s from ks. refl; place = λ t from. refl; rest = λ ks. refl }
-
-aside-by : (x : ℕ) → Aside (asideBy x)
-unfolding asideBy
-aside-by zero = aside-unknown
-aside-by (suc zero) = aside-unknown
-aside-by (suc (suc zero)) = aside-ignored byForm
-aside-by (suc (suc (suc zero))) = aside-ignored again
-aside-by (suc (suc (suc (suc n)))) = aside-ignored late
+-- a table that passes, and values that fit
+pub record Writable (table rows received set : List ℕ) : Type 0 where
+  pub passes : firstBad (rowsOf table) ≡ none
+  pub fit : (k : ℕ) → k < length (rowsOf table) → unfitAt (rowsOf table) (sourcesOf received set) rows k ≡ false
 
 never : (order : List ℕ) {ps : List Placed} → orderList order ≡ some ps → orderList order ≡ none → ⊥
 never order e f = Option·none-ne-some _ (sym f ∙ e)
@@ -149,36 +131,31 @@ module _ (table rows received set : List ℕ) (w : Writable table rows received 
   unfolding addedOctets
   end-is c ks h = ap concat (pieces-end m (index t) s c ks) ∙ concat-append (addedBy m s c (n - c)) ks ∙ ap (λ (a : List ℕ). a ++ concat ks) (added-is (n - c) c (omega arith)) ∙ sym (left-end F s c ks)
 
-  -- an entry, and what is behind it
-  module _ (c : ℕ) (h : c ≤ n) (ks : List (List ℕ)) (p : Placed) (ps : List Placed) where
-    aside-is : Aside p → (rest : List (List ℕ)) → concat rest ≡ leftOf F s ps c (restOf ks) → concat (nextBy ks ++ rest) ≡ leftOf F s (p ∷ ps) c ks
-    aside-is a rest e =
-        concat-append (nextBy ks) rest ∙ ap₂ _++_ (next-is ks) e
-        ∙ sym (left-step F s (w .passes) c h ps ks p ∙ rw (a .piece F s c ks, a .place t c, a .rest ks))
-
   walked-is : (order : List ℕ) (ps : List Placed) (c : ℕ) (ks : List (List ℕ)) → c ≤ n → orderList order ≡ some ps → concat (piecesBy m (index t) s order c ks) ≡ leftOf F s ps c ks
-  unfolding piecesBy orderFront orderBy orderEntry keptAfter pieceOf placeAfter
+  unfolding piecesBy orderFront orderBy orderEntry
   walked-is [] ps c ks h e = let z : ps ≡ [] = let f = order-nil [] refl in cc in rw z (end-is c ks h)
   walked-is (zero ∷ []) ps c ks h e = absurd (never (zero ∷ []) e (order-front (zero ∷ []) (omega arith)))
   walked-is (zero ∷ i ∷ o) ps c ks h e =
       let g = put-is (knownIei i) (orderList o) (sym (order-front (zero ∷ i ∷ o) (omega arith)) ∙ e) in
       let r = known-is i c in
-      let q : knownPlace c (placeOf t i) ≤ n = place-inside F s (w .passes) c h (g .rest) ks (knownIei i) in
+      let q : knownPlace c (placeOf t i) ≤ n = place-inside F s (w .passes) c h (g .rest) ks i in
       rw (g .both)
       (concat-append (knownBy m (index t) s i c) (piecesBy m (index t) s o (placeBy (index t) i c) ks)
       ∙ ap₂ _++_ (r .0) (ap (λ (d : ℕ). concat (piecesBy m (index t) s o d ks)) (r .1) ∙ walked-is o (g .rest) (knownPlace c (placeOf t i)) ks q (g .rest-is))
-      ∙ sym (left-step F s (w .passes) c h (g .rest) ks (knownIei i)))
+      ∙ sym (left-step F s (w .passes) c h (g .rest) ks i))
   walked-is (suc x ∷ o) ps c ks h e = by (ltb 4 (suc x)) refl (λ rest f. walked-is o rest c (restOf ks) h f)
     where
       by : (b : Bool) → ltb 4 (suc x) ≡ b → ((rest : List Placed) → orderList o ≡ some rest → concat (piecesBy m (index t) s o c (restOf ks)) ≡ leftOf F s rest c (restOf ks))
           → concat (nextBy ks ++ piecesBy m (index t) s o c (restOf ks)) ≡ leftOf F s ps c ks
       by true q r = absurd (never (suc x ∷ o) e (order-front (suc x ∷ o) (omega arith) ∙ ap (orderBy (suc x ∷ o)) (front-over (suc x ∷ o) (omega arith) (ltb-true 4 (suc x) q))))
       by false q r =
-          let a = aside-by (suc x) in
           let f : orderList (suc x ∷ o) ≡ put (asideBy (suc x)) (orderList (drop (length (orderEntry (asideBy (suc x)))) (suc x ∷ o))) =
           order-front (suc x ∷ o) (omega arith) ∙ ap (orderBy (suc x ∷ o)) (front-aside (suc x ∷ o) (suc x) (omega arith) refl (omega arith) (ltb-false 4 (suc x) q)) in
-          let g = put-is (asideBy (suc x)) (orderList o) (sym (rw (a .octet) at f) ∙ e) in
-          rw (g .both) (aside-is c h ks (asideBy (suc x)) (g .rest) a (piecesBy m (index t) s o c (restOf ks)) (r (g .rest) (g .rest-is)))
+          let g = put-is (asideBy (suc x)) (orderList o) (sym (rw (aside-octet (suc x)) at f) ∙ e) in
+          let rest = piecesBy m (index t) s o c (restOf ks) in
+          rw (g .both)
+          (concat-append (nextBy ks) rest ∙ ap₂ _++_ (next-is ks) (r (g .rest) (g .rest-is))
+          ∙ sym (aside-cases (Passed F s) (left-unknown F s) (left-ignored F s) (suc x) (g .rest) c ks))
 
 -- ---- the whole
 

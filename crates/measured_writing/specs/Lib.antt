@@ -1,4 +1,4 @@
 -- What the answers of this crate are by the definitions.
-pub mod Walks
+pub mod Added
 pub mod Sizes
 pub mod Encodes

@@ -12,7 +12,7 @@ use Rattle.definitions.specs.Logs.{Placed, knownIei, notKnown, ignored, orderLi
 use Rattle.definitions.specs.Writing.{Filled, elementAt, logged, unfit}
 use Rattle.definitions.proofs.WriteLaws.{loggedLength}
 use Rattle.seen.specs.Seen.{setOf, seenOf, includingPlace}
-use Rattle.measured_writing.specs.Walks.{addedOctets}
+use Rattle.measured_writing.specs.Added.{addedOctets}
 use Rattle.agreement.specs.Agreed.{apartBy, entrySet, Agreeing}
 use Rattle.measured_writing.specs.declared.sizes.Tally.{Tally}
 use Rattle.measured_writing.specs.declared.sizes.Logged.{Logged}

@@ -21,7 +21,7 @@ ghost use Rattle.kept.specs.Kept.{usedOf};
 ghost use Rattle.definitions.specs.Logs.{keptList};
 ghost use Rattle.logs.specs.Checks.{keptOctets};
 ghost use Rattle.logs.specs.declared.Kept.{Kept};
-ghost use Rattle.measured_writing.specs.Walks.{IndexIs, filledOf};
+ghost use Rattle.measured_writing.specs.Added.{IndexIs, filledOf};
 ghost use Rattle.measured_writing.specs.Sizes.{LoggedBy};
 ghost use Rattle.measured_writing.specs.Encodes.{Encodes, usedUp, Limited};
 

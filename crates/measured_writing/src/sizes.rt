@@ -28,7 +28,7 @@ ghost use Rattle.order.specs.Order.{placedAs};
 ghost use Rattle.seen.specs.Seen.{setOf};
 ghost use Rattle.rows.specs.Forms.{formAs};
 ghost use Rattle.agreement.specs.Agreed.{entryApart};
-ghost use Rattle.measured_writing.specs.Walks.{filledOf, IndexIs};
+ghost use Rattle.measured_writing.specs.Added.{filledOf, IndexIs};
 ghost use Rattle.measured_writing.specs.Sizes.{takes, placeLength, mostIe, Sized, Tallied, foundBy, WalkedBy, addedTo, wrongAt, LookedAt, SurveyedBy, AsidesAre};
 
 // The octets of the added elements, and their places.

@@ -31,7 +31,7 @@ ghost use Rattle.definitions.specs.Rows.{rowsOf, firstBad};
 ghost use Rattle.definitions.specs.Writing.{writing, writingBy};
 ghost use Rattle.kept.specs.Kept.{usedOf};
 ghost use Rattle.real.specs.Real.{realOf};
-ghost use Rattle.measured_writing.specs.Walks.{IndexIs};
+ghost use Rattle.measured_writing.specs.Added.{IndexIs};
 ghost use Rattle.measured_writing.specs.Encodes.{Encodes};
 ghost use Rattle.writing.specs.Passing.{Plainly};
 ghost use Rattle.writing_by_number.specs.Plain.{Plain};

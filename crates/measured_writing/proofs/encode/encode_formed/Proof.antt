@@ -11,7 +11,7 @@ use Rattle.definitions.specs.Rows.{rowsOf}
 use Rattle.logs.proofs.Formed.{kept-few, kept-told}
 use Rattle.seen.specs.Seen.{setOf}
 use Rattle.agreement.specs.Agreed.{Agreeing}
-use Rattle.measured_writing.specs.Walks.{filledOf}
+use Rattle.measured_writing.specs.Added.{filledOf}
 use Rattle.measured_writing.specs.Sizes.{SurveyedBy}
 use Rattle.measured_writing.specs.declared.sizes.Surveyed.{Surveyed}
 use Rattle.measured_writing.proofs.Encoding.{needed, all-left, writable, wrong-rows, apart-rows, bad-rows, no-fit, no-output, done}

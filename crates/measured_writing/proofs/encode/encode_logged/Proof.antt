@@ -2,7 +2,7 @@
 -- Each way out cites the law of its check.
 use mathlib.Core.Path.{sym, _∙_}
 use Rattle.logs.proofs.Formed.{kept-not}
-use Rattle.measured_writing.specs.Walks.{filledOf}
+use Rattle.measured_writing.specs.Added.{filledOf}
 use Rattle.measured_writing.specs.Sizes.{LoggedBy}
 use Rattle.measured_writing.proofs.Encoding.{no-order, no-kept}
 use borrow.Author.Needs.{needs}

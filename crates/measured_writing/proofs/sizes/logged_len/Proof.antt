@@ -9,7 +9,7 @@ use Rattle.definitions.proofs.Orders.{orderFront}
 use Rattle.definitions.proofs.Lists.{to-end}
 use Rattle.definitions.proofs.LogSteps.{OrderEntry, order-split}
 use Rattle.order.specs.Order.{placedAs, frontAs}
-use Rattle.measured_writing.specs.Walks.{filledOf}
+use Rattle.measured_writing.specs.Added.{filledOf}
 use Rattle.measured_writing.specs.Sizes.{AsidesAre}
 use Rattle.measured_writing.proofs.Tallying.{Walking, walking-begun, walking-step, walking-run, walking-stopped, walking-ended}
 use borrow.Author.Needs.{needs}

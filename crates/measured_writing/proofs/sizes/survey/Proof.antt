@@ -7,7 +7,7 @@ use lib.ListN.{length}
 use Rattle.definitions.specs.Rows.{rowsOf}
 use Rattle.definitions.proofs.TableLaws.{few-places}
 use Rattle.seen.specs.Seen.{setOf}
-use Rattle.measured_writing.specs.Walks.{filledOf}
+use Rattle.measured_writing.specs.Added.{filledOf}
 use Rattle.measured_writing.specs.Sizes.{LookedAt}
 use Rattle.measured_writing.specs.declared.sizes.Looked.{Looked}
 use Rattle.measured_writing.proofs.Surveying.{Looking, looking-begun, looking-few, looking-bad, looking-not-fit, looking-absent, looking-step, looking-unfit, looking-ended}

@@ -5,7 +5,7 @@ use native.Mathlib.Omega.{arith}
 use mathlib.Core.Path.{_≡_, ap, sym, _∙_}
 use Rattle.definitions.specs.Rows.{rowsOf, placeOf}
 use Rattle.rows.specs.Answers.{placeAs}
-use Rattle.measured_writing.specs.Walks.{filledOf}
+use Rattle.measured_writing.specs.Added.{filledOf}
 use Rattle.measured_writing.proofs.Tallying.{place-found, place-low, tallied-known, tallied-nowhere, tallied-unknown, tallied-ignored}
 use borrow.Author.Needs.{needs}
 use Rattle.measured_writing.proofs.sizes.with_entry.Statement.{statement}
