@@ -3,12 +3,12 @@
 use Prim.Native.Nat.{ℕ, _*_, _≤_}
 use native.Mathlib.Omega.{arith}
 use mathlib.Core.Path.{_≡_, refl, ap, _∙_}
-use mathlib.Core.List.{List, append-nil}
+use mathlib.Core.List.{List}
 use mathlib.Core.Bool.{Bool, true, false}
 use borrow.Author.Tests.{le-leb, leb-true}
-use lib.ListN.{length, replicate, length-replicate, drop-of-length-le}
+use lib.ListN.{length, replicate}
 use lib.Dec.{leb}
-use Rattle.definitions.specs.Basic.{over, mostOctets}
+use Rattle.definitions.specs.Basic.{mostOctets}
 use Rattle.definitions.specs.Rows.{Row, rowsOf}
 use Rattle.definitions.specs.Elements.{Parted, elements, cutShort, elementsOf, parted}
 use Rattle.definitions.specs.Reading.{Lent}
@@ -19,14 +19,6 @@ use Rattle.filling.specs.Fills.{done, cut, filledFrom}
 use Rattle.filling.specs.Filled.{Fill, holds, filledIn, filling, Leaves}
 use Rattle.filling.specs.declared.Filled.{Filled}
 use Rattle.filling.proofs.Filling.{Entered, entered, cut-of}
-
--- cleared to its end
-pub all-cleared : (n : ℕ) (s : List ℕ) → length s ≡ n → {s′ : List ℕ} → s′ ≡ over (replicate n 0) s → s′ ≡ replicate n 0
-unfolding over
-all-cleared n s h e =
-    let z : List ℕ = replicate n 0 in
-    let w : length z ≡ n = length-replicate n 0 in
-    e ∙ rw (drop-of-length-le s {i = length z} (omega arith), append-nil)
 
 module _ (table index : List ℕ) (start : ℕ) (option : Bool) (part rows kept order : List ℕ) where
   abbrev t : List Row

@@ -17,7 +17,7 @@ use Rattle.measuring.specs.declared.Measured.{Measured}
 use Rattle.by_index.specs.ByIndex.{rowsBy}
 use Rattle.filling.specs.Fills.{exact, Ready, Written}
 use Rattle.filling.specs.Decodes.{decodedAs, lentOf, Reads}
-use Rattle.filling.specs.Noted.{notedChecks, notedElements, noted}
+use Rattle.filling.specs.Noted.{notedChecks, notedElements, noted, Allowed}
 use Rattle.filling.specs.declared.Decoded.{Decoded}
 use Rattle.filling.specs.declared.Room.{Room}
 use Rattle.filling.proofs.Filling.{Entered}
@@ -105,6 +105,17 @@ module _ (table index : List ℕ) (start : ℕ) (option : Bool) (part : List ℕ
           note-done h =
               rw (le-ltb mostOctets (length part) short, le-ltb (length (l .rows)) n room, e, le-ltb (length (l .kept)) (length (keptOf es)) kept, le-ltb (length (l .order)) (length (entriesOf es)) h)
 
+  -- what is left of a part that nothing refuses, once it is written
+  pub written : {k o : ℕ} → Allowed table index start option part l k o → {rows′ kept′ order′ : List ℕ} → Written t n (elementsOf p) (l .rows) (l .kept) (l .order) rows′ kept′ order′ → Reads r (Decoded.Done k o) rows′ kept′ order′
+  unfolding notedElements
+  written a w =
+      record {
+        answers = a .answers;
+        rows-are = w .rows-are ∙ ap (λ (x : Read). x .rows) (sym (a .is));
+        kept-is = w .kept-is ∙ ap (λ (x : Read). x .kept) (sym (a .is));
+        order-is = w .order-is ∙ ap (λ (x : Read). x .order) (sym (a .is));
+      }
+
 -- ---- the answers
 
 module _ (table index : List ℕ) (start : ℕ) (option : Bool) (part rows kept order : List ℕ) where
@@ -137,15 +148,13 @@ module _ (table index : List ℕ) (start : ℕ) (option : Bool) (part rows kept 
             pub ready : Ready (t table index start option part l) (n table index start option part l) start option part rows kept order
             ready = record { short = short; rows-room = room; room = exact (h .decodes) (omega (arith, h .kept)) (omega (arith, h .entries)) }
 
-            pub done : {rows′ kept′ order′ : List ℕ} → Written (t table index start option part l) (n table index start option part l) es rows kept order rows′ kept′ order′
-                → Reads (r table index start option part l) (Decoded.Done k o) rows′ kept′ order′
+            pub allowed : Allowed table index start option part l k o
             unfolding notedElements
-            done w =
+            allowed =
                 let e : r table index start option part l ≡ notedElements (t table index start option part l) (n table index start option part l) l es =
                 note-done table index start option part l short room es (h .decodes) (omega (arith, h .kept)) (omega (arith, h .entries)) in
-                record {
-                  answers = rw (h .kept, h .entries) (ap (λ (x : Read). x .said) (sym e));
-                  rows-are = w .rows-are ∙ ap (λ (x : Read). x .rows) (sym e);
-                  kept-is = w .kept-is ∙ ap (λ (x : Read). x .kept) (sym e);
-                  order-is = w .order-is ∙ ap (λ (x : Read). x .order) (sym e);
-                }
+                record { ready = ready; decodes = h .decodes; is = e; answers = rw (h .kept, h .entries) (ap (λ (x : Read). x .said) (sym e)) }
+
+            pub done : {rows′ kept′ order′ : List ℕ} → Written (t table index start option part l) (n table index start option part l) es rows kept order rows′ kept′ order′
+                → Reads (r table index start option part l) (Decoded.Done k o) rows′ kept′ order′
+            done w = written table index start option part l allowed w

@@ -14,43 +14,20 @@ use measuring::Measured;
 use order::Placed;
 use order::entry_len;
 use order::put_placed;
-use plain_reading::clear_rows;
 use rows::columns::form_of;
 use rows::columns::numbers_at;
-use rows::columns::places;
 use seen::Seen;
 use seen::seen_has;
 ghost use mathlib.Core.Path.{_≡_};
 ghost use Prim.Native.Nat.{_+_, _*_, _≤_};
-ghost use lib.ListN.{length, replicate};
+ghost use lib.ListN.{length};
 ghost use mathlib.Core.List.{[], _∷_};
 ghost use Rattle.definitions.specs.Basic.{overAt};
-ghost use Rattle.definitions.specs.Rows.{rowsOf};
 ghost use Rattle.definitions.specs.Logs.{keptEntry, orderEntry};
-ghost use Rattle.definitions.specs.Elements.{elements, elementsOf, parted};
+ghost use Rattle.definitions.specs.Elements.{parted};
 ghost use Rattle.order.specs.Order.{placedAs};
 ghost use Rattle.by_index.specs.ByIndex.{rowsBy};
-ghost use Rattle.filling.specs.Fills.{SaidFits, saidEntered, keptOfFound, outcome, filledFrom, ReadyBy, Written};
-
-// No octet.
-fn clear_octets(log: &mut [u8])
-    ensures { λ r. ⌜ now (log .exit) ≡ replicate (length (now (log .entry))) 0 ⌝ }
-{
-    let mut i = 0;
-    while i < log.len() {
-        log[i] = 0;
-        i += 1;
-    }
-}
-
-// Nothing of a part, in rows and logs.
-pub(crate) fn clear_all(rows: &mut [u32], kept: &mut [u8], order: &mut [u8])
-    ensures { λ r. ⌜ (now (rows .exit) ≡ replicate (length (now (rows .entry))) 0) × (now (kept .exit) ≡ replicate (length (now (kept .entry))) 0) × (now (order .exit) ≡ replicate (length (now (order .entry))) 0) ⌝ }
-{
-    clear_rows(rows, rows.len());
-    clear_octets(kept);
-    clear_octets(order);
-}
+ghost use Rattle.filling.specs.Fills.{SaidFits, saidEntered, keptOfFound, outcome, filledFrom, ReadyBy};
 
 // Four numbers of a row from a position on.
 fn set_row(rows: &mut [u32], at: usize, start: u32, len: u32, iei: u32)
@@ -163,14 +140,12 @@ pub(crate) fn fill_elements(
         let iei = iei_of(x);
         let entry = entry_of(&*index, iei);
         let left = &octets[at..];
-        let seen = state.seen;
-        let highest = state.highest;
         let mut place = NO_PLACE;
         let came = if entry < 128 {
             place = entry;
             let row = numbers_at(&*table, place);
-            let again = seen_has(seen, place);
-            came_known(left, row, iei, option, again, place < highest)
+            let again = seen_has(state.seen, place);
+            came_known(left, row, iei, option, again, place < state.highest)
         } else {
             came_unknown(left, x, tlve_start)
         };
@@ -193,22 +168,4 @@ pub(crate) fn fill_elements(
             }
         }
     }
-}
-
-// All that reading writes of a part that decodes: the rows of every place, and both logs.
-pub(crate) fn fill(
-    octets: &[u8],
-    table: &[u32],
-    index: &[u8; 256],
-    tlve_start: u8,
-    option: bool,
-    rows: &mut [u32],
-    kept: &mut [u8],
-    order: &mut [u8],
-)
-    requires { ⌜ ReadyBy (now table) (now index) «tlve_start» option (now octets) (now rows) (now kept) (now order) × (parted (rowsBy (now table) (now index)) «tlve_start» option (now octets) ≡ elements (elementsOf (parted (rowsBy (now table) (now index)) «tlve_start» option (now octets)))) ⌝ }
-    ensures { λ r. ⌜ Written (rowsBy (now (table .entry)) (now (index .entry))) (4 * length (rowsOf (now (table .entry)))) (elementsOf (parted (rowsBy (now (table .entry)) (now (index .entry))) «tlve_start» option (now (octets .entry)))) (now (rows .entry)) (now (kept .entry)) (now (order .entry)) (now (rows .exit)) (now (kept .exit)) (now (order .exit)) ⌝ }
-{
-    clear_rows(rows, 4 * places(table));
-    fill_elements(octets, table, index, tlve_start, option, rows, kept, order);
 }

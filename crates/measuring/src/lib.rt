@@ -2,7 +2,14 @@
 use elements::next::start_state;
 use elements::walk::Stepped;
 use elements::walk::steps;
+use octets::MOST_OCTETS;
+use rows::columns::places;
 ghost use mathlib.Core.Path.{_≡_};
+ghost use mathlib.Core.Bool.{_&&_};
+ghost use Prim.Native.Nat.{_*_};
+ghost use lib.ListN.{length};
+ghost use lib.Dec.{leb};
+ghost use Rattle.definitions.specs.Basic.{mostOctets};
 ghost use Rattle.definitions.specs.Rows.{rowsOf};
 ghost use Rattle.definitions.specs.Elements.{parted};
 ghost use Rattle.rows.specs.Indexed.{Indexed};
@@ -43,4 +50,23 @@ pub fn measure(
         }
         Stepped::Cut(at, x, left, missing) => Measured::Cut(at, x, left, missing),
     }
+}
+
+// Whether rows and logs of so many numbers hold what any part of so many octets needs.
+pub fn may_hold(octets: usize, table: &[u32], rows: usize, kept: usize, order: usize) -> bool
+    ensures { λ r. ⌜ r ≡ (leb octets mostOctets && (leb (4 * length (rowsOf (now (table .entry)))) rows && (leb (2 * octets) kept && leb (2 * octets) order))) ⌝ }
+{
+    if octets > MOST_OCTETS {
+        return false;
+    }
+    if rows / 4 < places(table) {
+        return false;
+    }
+    if kept / 2 < octets {
+        return false;
+    }
+    if order / 2 < octets {
+        return false;
+    }
+    true
 }

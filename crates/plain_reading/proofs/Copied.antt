@@ -3,10 +3,10 @@
 use Prim.Native.Nat.{ℕ, zero, suc, _*_, _≤_, min}
 use native.Mathlib.Omega.{arith}
 use mathlib.Core.Path.{_≡_, refl, ap, sym, _∙_}
-use mathlib.Core.List.{List, _∷_}
+use mathlib.Core.List.{List, _∷_, append-nil}
 use mathlib.Core.Bool.{Bool, true, false, false≢true}
 use mathlib.Core.Option.{none, some}
-use lib.ListN.{length, take, replicate}
+use lib.ListN.{length, take, replicate, length-replicate, drop-of-length-le}
 use lib.Seq.{take-append-seam}
 use Rattle.definitions.specs.Basic.{pick, over}
 use Rattle.definitions.specs.Rows.{Row}
@@ -34,6 +34,14 @@ all-copied rows found n a b e = let m : min n (min (length rows) (length found))
 -- so many cleared, of as many as there are
 pub first-cleared : (rows : List ℕ) (n : ℕ) → n ≤ length rows → {rows′ : List ℕ} → rows′ ≡ over (replicate (min n (length rows)) 0) rows → rows′ ≡ over (replicate n 0) rows
 first-cleared rows n h e = let m : min n (length rows) ≡ n = omega arith in rw m at e
+
+-- cleared to its end
+pub all-cleared : (n : ℕ) (s : List ℕ) → length s ≡ n → {s′ : List ℕ} → s′ ≡ over (replicate n 0) s → s′ ≡ replicate n 0
+unfolding over
+all-cleared n s h e =
+    let z : List ℕ = replicate n 0 in
+    let w : length z ≡ n = length-replicate n 0 in
+    e ∙ rw (drop-of-length-le s {i = length z} (omega arith), append-nil)
 
 -- ---- what a pass says of a part
 

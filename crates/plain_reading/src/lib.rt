@@ -114,6 +114,26 @@ pub fn clear_rows(rows: &mut [u32], n: usize)
     }
 }
 
+// No octet.
+fn clear_octets(log: &mut [u8])
+    ensures { λ r. ⌜ now (log .exit) ≡ replicate (length (now (log .entry))) 0 ⌝ }
+{
+    let mut i = 0;
+    while i < log.len() {
+        log[i] = 0;
+        i += 1;
+    }
+}
+
+// Nothing of a part, in rows and logs.
+pub fn clear_all(rows: &mut [u32], kept: &mut [u8], order: &mut [u8])
+    ensures { λ r. ⌜ (now (rows .exit) ≡ replicate (length (now (rows .entry))) 0) × (now (kept .exit) ≡ replicate (length (now (kept .entry))) 0) × (now (order .exit) ≡ replicate (length (now (order .entry))) 0) ⌝ }
+{
+    clear_rows(rows, rows.len());
+    clear_octets(kept);
+    clear_octets(order);
+}
+
 // ---- the rows are found in an array of one of two lengths, since it is cleared at each call
 
 fn plain_few(number: u32, octets: &[u8], n: usize, rows: &mut [u32]) -> bool

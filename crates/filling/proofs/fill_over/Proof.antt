@@ -13,22 +13,19 @@ use borrow.Author.Needs.{needs}
 use Rattle.filling.proofs.fill_over.Statement.{statement}
 use Rattle.filling.proofs.fill_over.Tie as tie
 
-places-requires : tie.Need-places-requires
-places-requires c κs = search needs
-
 may-hold-requires : tie.Need-may-hold-requires
 may-hold-requires c κs = search needs
 
 -- the answer of `may_hold` is that of the arrays
-asked : (c : tie.After-may-hold) → let a = c .before .before .before .before .before .before .before .args in c .may-hold .result ≡ holds (a .table .now) (a .octets .now) (lentOf (a .rows .now) (a .kept .now) (a .order .now))
+asked : (c : tie.After-may-hold) → let a = c .before .before .before .before .before .before .args in c .may-hold .result ≡ holds (a .table .now) (a .octets .now) (lentOf (a .rows .now) (a .kept .now) (a .order .now))
 unfolding holds
-asked c = rw (c .before .places .ensures) at (c .may-hold .ensures)
+asked c = c .may-hold .ensures
 
 returns : tie.Need-returns
-returns c = let a = c .before .before .before .before .before .before .before .before .args in no-room (a .table .now) (a .index .now) (a .tlve-start) (a .option) (a .octets .now) (a .rows .now) (a .kept .now) (a .order .now) (sym (asked (c .before)) ∙ not-true _ (c .if1 .taken))
+returns c = let a = c .before .before .before .before .before .before .before .args in no-room (a .table .now) (a .index .now) (a .tlve-start) (a .option) (a .octets .now) (a .rows .now) (a .kept .now) (a .order .now) (sym (asked (c .before)) ∙ not-true _ (c .if1 .taken))
 
-fit : (c : tie.Else1) → let a = c .before .before .before .before .before .before .before .before .args in Holds (a .table .now) (a .index .now) (a .tlve-start) (a .option) (a .octets .now) (a .rows .now) (a .kept .now) (a .order .now)
-fit c = let a = c .before .before .before .before .before .before .before .before .args in held (a .table .now) (a .index .now) (a .tlve-start) (a .option) (a .octets .now) (a .rows .now) (a .kept .now) (a .order .now) (sym (asked (c .before)) ∙ not-false _ (c .if1 .left))
+fit : (c : tie.Else1) → let a = c .before .before .before .before .before .before .before .args in Holds (a .table .now) (a .index .now) (a .tlve-start) (a .option) (a .octets .now) (a .rows .now) (a .kept .now) (a .order .now)
+fit c = let a = c .before .before .before .before .before .before .before .args in held (a .table .now) (a .index .now) (a .tlve-start) (a .option) (a .octets .now) (a .rows .now) (a .kept .now) (a .order .now) (sym (asked (c .before)) ∙ not-false _ (c .if1 .left))
 
 fill-elements-requires : tie.Need-fill-elements-requires
 fill-elements-requires c κs = let h = fit (c .before .before .before) in record { short = h .short; rows-room = h .rows-room; room = twice (omega (arith, h .kept-room)) (omega (arith, h .order-room)) }
@@ -53,7 +50,7 @@ same-length-3 c = search needs
 
 returns-2 : tie.Need-returns-2
 returns-2 c =
-    let a = c .before .before .before .before .before .before .before .before .before .before .before .before .before .before .before .before .before .before .before .before .before .args in
+    let a = c .before .before .before .before .before .before .before .before .before .before .before .before .before .before .before .before .before .before .before .before .args in
     let h = fit (c .before .before .before .before .before .before .before .before .before .before .before .before .before) in
     all-entered (a .table .now) (a .index .now) (a .tlve-start) (a .option) (a .octets .now) (a .rows .now) (a .kept .now) (a .order .now) (h .short) (h .rows-room) (h .kept-room) (h .order-room) (rw (c .before .k .given .1) at (c .before .before .before .before .before .before .before .before .before .fill-elements .ensures))
 
@@ -71,7 +68,7 @@ zeros e = ap (λ (x : ℕ). replicate {A = ℕ} x 0) e
 
 returns-3 : tie.Need-returns-3
 returns-3 c =
-    let a = c .before .before .before .before .before .before .before .before .before .before .before .before .before .before .before .before .before .before .before .before .before .before .before .before .before .before .before .before .before .before .before .args in
+    let a = c .before .before .before .before .before .before .before .before .before .before .before .before .before .before .before .before .before .before .before .before .before .before .before .before .before .before .before .before .before .before .args in
     let h = fit (c .before .before .before .before .before .before .before .before .before .before .before .before .before .before .before .before .before .before .before .before .before .before .before) in
     let l = c .before .before .before .before .before .before .before .before .before .before .before .before .before .before .before .before .before .before .before .fill-elements .last in
     let e = c .before .before .before .before .before .before .clear-all .ensures in
@@ -81,7 +78,6 @@ pub fill-over-spec : {M : Type 1} → statement M
 fill-over-spec =
     tie.close
     (tie.spec
-    places-requires
     may-hold-requires
     returns
     fill-elements-requires

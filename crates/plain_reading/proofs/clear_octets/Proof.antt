@@ -7,8 +7,8 @@ use mathlib.Core.List.{_++_, append-nil}
 use lib.ListN.{length, take, drop, replicate, length-set, length-replicate, drop-of-length-le}
 use lib.Seq.{take-all}
 use Rattle.definitions.proofs.Lists.{zero-step}
-use Rattle.filling.proofs.fill.clear_octets.Statement.{statement}
-use Rattle.filling.proofs.fill.clear_octets.Tie as tie
+use Rattle.plain_reading.proofs.clear_octets.Statement.{statement}
+use Rattle.plain_reading.proofs.clear_octets.Tie as tie
 
 abbrev Inv-loop : tie.InvT-loop
 Inv-loop log₀ i₀ log i = (i ≤ length log₀) × (length log ≡ length log₀) × (log ≡ take i (replicate (length log₀) 0) ++ drop i log₀)

@@ -2,11 +2,10 @@
 use native.Mathlib.Omega.{arith}
 use mathlib.Core.Path.{refl}
 use lib.ListN.{length}
-use Rattle.plain_reading.proofs.Copied.{first-cleared}
-use Rattle.filling.proofs.Arrays.{all-cleared}
+use Rattle.plain_reading.proofs.Copied.{first-cleared, all-cleared}
 use borrow.Author.Needs.{needs}
-use Rattle.filling.proofs.fill.clear_all.Statement.{statement}
-use Rattle.filling.proofs.fill.clear_all.Tie as tie
+use Rattle.plain_reading.proofs.clear_all.Statement.{statement}
+use Rattle.plain_reading.proofs.clear_all.Tie as tie
 
 clear-rows-requires : tie.Need-clear-rows-requires
 clear-rows-requires c κs = search needs
