@@ -138,13 +138,9 @@ module _ (fs : List (List ℕ)) (lent : List ℕ) where
   noted-done h = rw (le-ltb (length lent) (2 * length fs) h)
 
 module _ (ix : List ℕ) (order kept : Used) (lent : List ℕ) where
-  pub long-order : tooLong mostLog order ≡ true → findingIn ix order kept lent ≡ unnoted lent (answer 3 [])
+  pub long-logs : (tooLong mostLog order || tooLong mostLog kept) ≡ true → findingIn ix order kept lent ≡ unnoted lent (answer 3 [])
   unfolding findingIn refusal
-  long-order h = rw h
-
-  pub long-kept : tooLong mostLog order ≡ false → tooLong mostLog kept ≡ true → findingIn ix order kept lent ≡ unnoted lent (answer 3 [])
-  unfolding findingIn refusal
-  long-kept g h = rw (g, h)
+  long-logs h = rw h
 
   module _ (g : tooLong mostLog order ≡ false) (h : tooLong mostLog kept ≡ false) where
     pub bad-order : isNone (orderList (content order)) ≡ true → findingIn ix order kept lent ≡ unnoted lent (answer 11 (1 ∷ []))

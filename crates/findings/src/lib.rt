@@ -5,10 +5,9 @@ use crate::walk::count_findings;
 use crate::walk::put_findings;
 use checks::Checked;
 use checks::check_and_index;
-use kept::MOST_LOG;
-use kept::too_long;
 use logs::Logs;
 use logs::check_logs;
+use logs::logs_long;
 ghost use Rattle.definitions.specs.Findings.{finding};
 ghost use Rattle.kept.specs.Kept.{usedOf};
 ghost use Rattle.findings.specs.Findings.{Finds, findingIn, notedIn};
@@ -53,10 +52,7 @@ fn find_by_index(
 ) -> Found
     ensures { λ r. ⌜ Finds (findingIn (now (index .entry)) (usedOf (now (order .entry)) «order_used») (usedOf (now (kept .entry)) «kept_used») (now (findings .entry))) r (now (findings .exit)) ⌝ }
 {
-    if too_long(order, order_used, MOST_LOG) {
-        return Found::TooLong;
-    }
-    if too_long(kept, kept_used, MOST_LOG) {
+    if logs_long(order, order_used, kept, kept_used) {
         return Found::TooLong;
     }
     match check_logs(&order[..order_used], &kept[..kept_used]) {

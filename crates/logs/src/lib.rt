@@ -1,13 +1,17 @@
-// Whether a log is well formed: each by itself, as writing asks, and both at once, as the findings do.
+// Whether the logs are too long, and whether a log is well formed: each by itself, as writing asks, and both at once, as the findings do.
 use kept::Count;
+use kept::MOST_LOG;
 use kept::entry_at;
+use kept::too_long;
 use order::Front;
 use order::entry_len;
 use order::front_at;
 ghost use mathlib.Core.Path.{_≡_};
+ghost use mathlib.Core.Bool.{_||_};
 ghost use Prim.Native.Nat.{_≤_};
-ghost use Rattle.definitions.specs.Basic.{isNone};
+ghost use Rattle.definitions.specs.Basic.{isNone, tooLong, mostLog};
 ghost use Rattle.definitions.specs.Logs.{orderList, keptList};
+ghost use Rattle.kept.specs.Kept.{usedOf};
 ghost use Rattle.logs.specs.Checks.{keptOctets, checkedLogs};
 ghost use Rattle.logs.specs.Walks.{Keeping};
 
@@ -22,6 +26,16 @@ pub enum Logs {
 pub enum Kept {
     Octets(usize),
     Malformed,
+}
+
+// Whether a log is too long, or a used count above its buffer.
+pub fn logs_long(order: &[u8], order_used: usize, kept: &[u8], kept_used: usize) -> bool
+    ensures { λ r. ⌜ r ≡ (tooLong mostLog (usedOf (now (order .entry)) «order_used») || tooLong mostLog (usedOf (now (kept .entry)) «kept_used»)) ⌝ }
+{
+    if too_long(order, order_used, MOST_LOG) {
+        return true;
+    }
+    too_long(kept, kept_used, MOST_LOG)
 }
 
 // Whether an order log is malformed.

@@ -16,9 +16,10 @@ use Rattle.definitions.specs.Logs.{Placed, keptList, orderList}
 use Rattle.definitions.specs.Values.{placeWidth, valueAt, present, goodValue, anyOf, badRows, apart, unfitAt, valuesTooLong}
 use Rattle.definitions.specs.Writing.{Filled, logged, written, unfit, octetsIn, octetsFor, writingChecks, Wrote, writing}
 use Rattle.definitions.proofs.WriteLaws.{unwritten, write-long, write-rows, write-order, write-kept, write-values, write-unfit, write-short, write-done, loggedLength, walked-length}
-use Rattle.definitions.proofs.Checks.{none-first, either-of}
+use Rattle.definitions.proofs.Checks.{none-first, either-of, neither}
 use Rattle.kept.specs.Kept.{usedOf}
 use Rattle.values.specs.Rows.{sourcesOf}
+use Rattle.values.specs.Checks.{longWith}
 use Rattle.agreement.specs.Agreed.{apartBy, Agreeing}
 use Rattle.agreement.proofs.Agreeing.{found-apart, all-apart}
 use Rattle.measured_writing.specs.Added.{filledOf, addedIn, addedOctets}
@@ -165,6 +166,21 @@ not-long most s n e = by (ltb (length s) n) (ltb most n) refl refl e
     by false true x y z = absurd (false≢true (sym z))
     by false false x y z = (ltb-false (length s) n x, ltb-false most n y)
 
+-- values that are not too long, with no set octet to come
+pub no-more : (received set : List ℕ) (n : ℕ) → longWith received (usedOf set n) 0 ≡ valuesTooLong received (usedOf set n)
+unfolding longWith valuesTooLong tooLong
+no-more received set n = let z : n + 0 ≡ n = omega arith in rw z (by (ltb mostOctets (length received)) (ltb (length set) n) (ltb mostOctets n))
+  where
+    by : (a b c : Bool) → ((a || (b || c)) || c) ≡ (a || (b || c))
+    by true b c = refl
+    by false true c = refl
+    by false false true = refl
+    by false false false = refl
+
+pub values-short : (received set : List ℕ) (n : ℕ) → valuesTooLong received (usedOf set n) ≡ false → (length received ≤ mostOctets) × (tooLong mostOctets (usedOf set n) ≡ false)
+unfolding valuesTooLong
+values-short received set n e = let w = neither (ltb mostOctets (length received)) (tooLong mostOctets (usedOf set n)) e in (ltb-false mostOctets (length received) (w .0), w .1)
+
 same-content : (s : List ℕ) (n : ℕ) → content (usedUp (take n s)) ≡ content (usedOf s n)
 unfolding content
 same-content s n = take-all (length (take n s)) (take n s) (omega arith)
@@ -174,29 +190,15 @@ module _ (table entries rows received set : List ℕ) (set-used : ℕ) (kept : L
   abbrev v : Wrote
   v = writing table rows received (usedOf set set-used) (usedOf order order-used) (usedOf kept kept-used) output
 
-  pub long-received : mostOctets < length received → Encodes v Encoded.TooLong output
-  unfolding valuesTooLong
-  long-received h =
-      refused (write-long table rows received (usedOf set set-used) (usedOf order order-used) (usedOf kept kept-used) output passes (rw (lt-ltb mostOctets (length received) h))) refl
+  pub long-values : valuesTooLong received (usedOf set set-used) ≡ true → Encodes v Encoded.TooLong output
+  long-values e = refused (write-long table rows received (usedOf set set-used) (usedOf order order-used) (usedOf kept kept-used) output passes (rw e)) refl
+
+  pub long-logs : valuesTooLong received (usedOf set set-used) ≡ false → (tooLong mostLog (usedOf order order-used) || tooLong mostLog (usedOf kept kept-used)) ≡ true → Encodes v Encoded.TooLong output
+  long-logs e f = refused (write-long table rows received (usedOf set set-used) (usedOf order order-used) (usedOf kept kept-used) output passes (rw (e, f))) refl
 
   module _ (a : length received ≤ mostOctets) where
-    pub long-set : tooLong mostOctets (usedOf set set-used) ≡ true → Encodes v Encoded.TooLong output
-    unfolding valuesTooLong
-    long-set e =
-        refused (write-long table rows received (usedOf set set-used) (usedOf order order-used) (usedOf kept kept-used) output passes (rw (le-ltb mostOctets (length received) a, e))) refl
-
     module _ (b : tooLong mostOctets (usedOf set set-used) ≡ false) where
-      pub long-order : tooLong mostLog (usedOf order order-used) ≡ true → Encodes v Encoded.TooLong output
-      unfolding valuesTooLong
-      long-order e =
-          refused (write-long table rows received (usedOf set set-used) (usedOf order order-used) (usedOf kept kept-used) output passes (rw (le-ltb mostOctets (length received) a, b, e))) refl
-
       module _ (c : tooLong mostLog (usedOf order order-used) ≡ false) where
-        pub long-kept : tooLong mostLog (usedOf kept kept-used) ≡ true → Encodes v Encoded.TooLong output
-        unfolding valuesTooLong
-        long-kept e =
-            refused (write-long table rows received (usedOf set set-used) (usedOf order order-used) (usedOf kept kept-used) output passes (rw (le-ltb mostOctets (length received) a, b, c, e))) refl
-
         module _ (d : tooLong mostLog (usedOf kept kept-used) ≡ false) where
           all-short : (valuesTooLong received (usedOf set set-used) || (tooLong mostLog (usedOf order order-used) || tooLong mostLog (usedOf kept kept-used))) ≡ false
           unfolding valuesTooLong

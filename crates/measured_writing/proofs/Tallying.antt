@@ -88,11 +88,11 @@ module _ (m : Filled) where
   unfolding entryLength entrySet
   tallied-nowhere t iei e = let z : t .octets ≡ t .octets + 0 = omega arith in record { octets = rw e z; few = omega arith; set = rw e }
 
-  pub tallied-unknown : (t : Tally) → Tallied m notKnown t t
+  tallied-unknown : (t : Tally) → Tallied m notKnown t t
   unfolding entryLength entrySet
   tallied-unknown t = record { octets = omega arith; few = omega arith; set = refl }
 
-  pub tallied-ignored : (t : Tally) (r : Reason) → Tallied m (ignored r) t t
+  tallied-ignored : (t : Tally) (r : Reason) → Tallied m (ignored r) t t
   unfolding entryLength entrySet
   tallied-ignored t r = record { octets = omega arith; few = omega arith; set = refl }
 
@@ -233,13 +233,20 @@ asides-more order n f g h j k = by (ltb j n) refl
     by false e = let l = ltb-false j n e in let z : j ≡ n = omega arith in rw z (g, h)
 
 -- each is an octet, and changes nothing
-record Idle (m : Filled) (p : Placed) : Type 0 where
-  tally : (t : Tally) → Tallied m p t t
-  apart : (set : ℕ) (x : Bool) → entryApart (m .table) (m .rows) p set x ≡ x
+pub record Idle (m : Filled) (p : Placed) : Type 0 where
+  pub tally : (t : Tally) → Tallied m p t t
+  pub apart : (set : ℕ) (x : Bool) → entryApart (m .table) (m .rows) p set x ≡ x
+
+pub idle-unknown : (m : Filled) → Idle m notKnown
+unfolding entryApart
+idle-unknown m = record { tally = tallied-unknown m; apart = λ set x. refl }
+
+pub idle-ignored : (m : Filled) (r : Reason) → Idle m (ignored r)
+unfolding entryApart
+idle-ignored m r = record { tally = λ t. tallied-ignored m t r; apart = λ set x. refl }
 
 idle : (m : Filled) (x : ℕ) → Idle m (asideBy x)
-unfolding entryApart
-idle m = aside-cases (Idle m) (record { tally = tallied-unknown m; apart = λ set x. refl }) (λ r. record { tally = λ t. tallied-ignored m t r; apart = λ set x. refl })
+idle m = aside-cases (Idle m) (idle-unknown m) (idle-ignored m)
 
 module _ (m : Filled) (order : List ℕ) (t : Tally) (apart : Bool) (passes : firstBad (m .table) ≡ none) where
   pub walking-run : (n at : ℕ) → Walking m order at t apart → at + n ≤ length order → AsidesAre (drop at order) n → Walking m order (at + n) t apart

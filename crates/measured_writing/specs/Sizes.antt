@@ -71,8 +71,12 @@ pub record Tells (m : Filled) (order : List ℕ) (octets set : ℕ) (qs : List P
   pub sum : octets + loggedLength m qs ≡ loggedLength m ps
   pub places : (k : ℕ) → (among k (logged (m .table) qs) || bit k set) ≡ among k (logged (m .table) ps)
 
+-- what a walk over the log found, and its tally alone
 abbrev pub foundBy : Tally → Bool → Logged
 foundBy t apart = record { octets = t .octets; seen = t .seen; apart = apart }
+
+abbrev pub tallyOf : Logged → Tally
+tallyOf t = record { octets = t .octets; seen = t .seen }
 
 pub record LoggedBy (m : Filled) (order : List ℕ) (t : Logged) : Type 0 where
   pub few : t .octets ≤ mostIe * length order

@@ -6,12 +6,11 @@ use crate::sizes::logged_len;
 use crate::sizes::survey;
 use checks::Checked;
 use checks::check_and_index;
-use kept::MOST_LOG;
-use kept::too_long;
 use logs::Kept;
 use logs::kept_len;
-use octets::MOST_OCTETS;
+use logs::logs_long;
 use rows::columns::places;
+use values::check::too_long;
 use walking::write_walk;
 ghost use mathlib.Core.Path.{_≡_};
 ghost use mathlib.Core.Option.{none};
@@ -140,16 +139,10 @@ fn encode_by_index<'a>(
     requires { ⌜ (firstBad (rowsOf (now table)) ≡ none) × IndexIs (now table) (now index) ⌝ }
     ensures { λ r. ⌜ Encodes (writing (now (table .entry)) (now (rows .entry)) (now (received .entry)) (usedOf (now (set .entry)) «set_used») (usedOf (now (order .entry)) «order_used») (usedOf (now (kept .entry)) «kept_used») (now (output .entry))) r (now (output .exit)) ⌝ }
 {
-    if received.len() > MOST_OCTETS {
+    if too_long(&*received, &*set, set_used, 0) {
         return Encoded::TooLong;
     }
-    if too_long(&*set, set_used, MOST_OCTETS) {
-        return Encoded::TooLong;
-    }
-    if too_long(&*order, order_used, MOST_LOG) {
-        return Encoded::TooLong;
-    }
-    if too_long(&*kept, kept_used, MOST_LOG) {
+    if logs_long(&*order, order_used, &*kept, kept_used) {
         return Encoded::TooLong;
     }
     if rows.len() < 4 * places(&*table) {

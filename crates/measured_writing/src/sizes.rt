@@ -28,8 +28,8 @@ ghost use Rattle.order.specs.Order.{placedAs};
 ghost use Rattle.seen.specs.Seen.{setOf};
 ghost use Rattle.rows.specs.Forms.{formAs};
 ghost use Rattle.agreement.specs.Agreed.{entryApart};
-ghost use Rattle.measured_writing.specs.Added.{filledOf, IndexIs};
-ghost use Rattle.measured_writing.specs.Sizes.{takes, placeLength, mostIe, Sized, Tallied, foundBy, WalkedBy, addedTo, wrongAt, LookedAt, SurveyedBy, AsidesAre};
+ghost use Rattle.measured_writing.specs.Added.{filledOf};
+ghost use Rattle.measured_writing.specs.Sizes.{takes, placeLength, mostIe, Sized, Tallied, tallyOf, WalkedBy, addedTo, wrongAt, LookedAt, SurveyedBy, AsidesAre};
 
 // The octets of the added elements, and their places.
 pub struct Tally {
@@ -105,45 +105,23 @@ fn with_entry<'a>(
     rows: &[u32],
     received: &'a [u8],
     set: &'a [u8],
-    t: Tally,
+    t: Logged,
     entry: Placed,
-) -> Tally
+) -> Logged
     requires { ⌜ Sized (now table) (now index) (now received) (now set) × (t .octets < 1099511627776) ⌝ }
-    ensures { λ r. ⌜ Tallied (filledOf (now (table .entry)) (now (rows .entry)) (now (received .entry)) (now (set .entry))) (placedAs entry) t r ⌝ }
+    ensures { λ r. ⌜ Tallied (filledOf (now (table .entry)) (now (rows .entry)) (now (received .entry)) (now (set .entry))) (placedAs entry) (tallyOf t) (tallyOf r) × (r .apart ≡ entryApart (rowsOf (now (table .entry))) (now (rows .entry)) (placedAs entry) (setOf (t .seen)) (t .apart)) ⌝ }
 {
     let seen = t.seen;
     match entry {
         Placed::Known(iei) => match place_of(index, iei) {
-            Place::At(k) => Tally {
+            Place::At(k) => Logged {
                 octets: t.octets + place_len(table, rows, received, set, k),
                 seen: seen_with(seen, k),
+                apart: apart_with(rows, seen, t.apart, k, iei as u32),
             },
             Place::Nowhere => t,
         },
-        Placed::Unknown => t,
-        Placed::Ignored(_) => t,
-    }
-}
-
-// Whether a row disagrees with the log, with one entry more.
-fn entry_apart(
-    table: &[u32],
-    index: &[u8],
-    rows: &[u32],
-    seen: Seen,
-    apart: bool,
-    entry: Placed,
-) -> bool
-    requires { ⌜ (firstBad (rowsOf (now table)) ≡ none) × IndexIs (now table) (now index) ⌝ }
-    ensures { λ r. ⌜ r ≡ entryApart (rowsOf (now (table .entry))) (now (rows .entry)) (placedAs entry) (setOf seen) apart ⌝ }
-{
-    match entry {
-        Placed::Known(iei) => match place_of(index, iei) {
-            Place::At(k) => apart_with(rows, seen, apart, k, iei as u32),
-            Place::Nowhere => apart,
-        },
-        Placed::Unknown => apart,
-        Placed::Ignored(_) => apart,
+        _ => t,
     }
 }
 
@@ -178,11 +156,11 @@ pub(crate) fn logged_len<'a>(
     ensures { λ r. ⌜ WalkedBy (filledOf (now (table .entry)) (now (rows .entry)) (now (received .entry)) (now (set .entry))) (now (order .entry)) r ⌝ }
 {
     let mut at = 0;
-    let mut t = Tally {
+    let mut t = Logged {
         octets: 0,
         seen: Seen { low: 0, high: 0 },
+        apart: false,
     };
-    let mut apart = false;
     while at < order.len() {
         let n = asides(&order[at..]);
         if n > 0 {
@@ -190,8 +168,6 @@ pub(crate) fn logged_len<'a>(
         } else {
             match front_at(&order[at..]) {
                 Front::Is(entry) => {
-                    let seen = t.seen;
-                    apart = entry_apart(table, index, rows, seen, apart, entry);
                     t = with_entry(table, index, rows, received, set, t, entry);
                     at += entry_len(entry);
                 }
@@ -201,19 +177,7 @@ pub(crate) fn logged_len<'a>(
             }
         }
     }
-    Walked::Log(found(t, apart))
-}
-
-// What a walk over the log found.
-fn found(t: Tally, apart: bool) -> Logged
-    ensures { λ r. ⌜ r ≡ foundBy t apart ⌝ }
-{
-    let seen = t.seen;
-    Logged {
-        octets: t.octets,
-        seen,
-        apart,
-    }
+    Walked::Log(t)
 }
 
 // Whether a place's row is malformed, or it is present, the order log does not name it, and its IEI is not its first.
