@@ -2,8 +2,8 @@
 -- Without logs there are the places alone.
 use Prim.Native.Nat.{ℕ, _+_, _-_, _≤_, _<_, min}
 use native.Mathlib.Omega.{arith}
-use mathlib.Core.Path.{_≡_, refl, ap, sym}
-use mathlib.Core.List.{List, [], _∷_, append-nil}
+use mathlib.Core.Path.{_≡_, refl, sym}
+use mathlib.Core.List.{List, [], _∷_}
 use mathlib.Core.Bool.{Bool, true, false}
 use mathlib.Core.Option.{Option, none, some}
 use borrow.Author.Tests.{leb-true, le-ltb, lt-ltb}
@@ -12,22 +12,19 @@ use lib.Dec.{leb, ltb}
 use Rattle.definitions.specs.Basic.{pick, concat, over}
 use Rattle.definitions.specs.Rows.{rowsOf}
 use Rattle.definitions.specs.Logs.{orderList, orderListF, keptList, keptListF, orEmpty}
-use Rattle.placing.specs.Pieces.{Lent, joined, ranged, heldTo, WroteBy, capacity}
+use Rattle.placing.specs.Pieces.{Lent, ranged, heldTo, WroteBy, capacity}
 use Rattle.one_pass.specs.Passes.{passed, leftBy, passedBy, shortBy}
 use Rattle.placing.specs.declared.Passed.{Passed}
 use Rattle.placing.proofs.Pieces.{none-not}
-
-joined-nothing : (a : Option (List ℕ)) → joined a (some []) ≡ a
-unfolding joined
-joined-nothing none = refl
-joined-nothing (some s) = ap some (append-nil s)
+use Rattle.unnamed.proofs.Naming.{joined-last, names-empty, none-named}
 
 -- without logs there are the places alone
 unlogged : (m : Lent) (ix : List ℕ) → ranged m 0 (length (rowsOf (m .table))) ≡ shortBy m ix [] []
 unfolding shortBy passedBy leftBy passed orderList orderListF keptList keptListF concat
 unlogged m ix =
-    let z : length (rowsOf (m .table)) - 0 ≡ length (rowsOf (m .table)) = omega arith in
-    rw z (sym (joined-nothing (ranged m 0 (length (rowsOf (m .table))))))
+    let n : ℕ = length (rowsOf (m .table)) in
+    let z : n - 0 ≡ n = omega arith in
+    rw (z, names-empty ix (m .rows) n, none-named m n 0) (sym (joined-last (ranged m 0 n)))
 
 pub without-logs : (m : Lent) (ix order kept : List ℕ) → length order ≡ 0 → length kept ≡ 0 → {before after : List ℕ} {r : Passed}
     → WroteBy (capacity (length (rowsOf (m .table))) 0) (ranged m 0 (length (rowsOf (m .table)))) before r after

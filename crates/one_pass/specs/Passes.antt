@@ -1,50 +1,57 @@
--- A message written in one pass, place by place and entry by entry: what it is written as where its logs are well formed, the places that
--- the order log names rise, and every row is well formed, agrees with the log and fits; else none. A pass goes by the numbers of a
--- table and by an index as they are lent. Where it gives octets, by a table that passes and its own index, they are those of writing: `wholly`.
-use Prim.Native.Nat.{ℕ, suc, _+_, _-_, _≤_, _<_}
+-- A message written in one pass, place by place and entry by entry: what it is written as where its logs are well formed, and every row is
+-- well formed, agrees with the log and fits; else none. A place that the order log names below one that it named before has to be in a set of names, or
+-- there is none either. A pass goes by the numbers of a table and by an index as they are lent. Where it gives octets, by a table that
+-- passes and its own index, they are those of writing: `wholly`.
+use Prim.Native.Nat.{ℕ, suc, _+_, _-_, _≤_, _<_, max}
 use mathlib.Core.Path.{_≡_}
 use mathlib.Core.List.{List, [], _∷_}
+use mathlib.Core.Bool.{not, _&&_}
 use mathlib.Core.Option.{Option, none, some}
 use lib.ListN.{length, drop}
 use lib.Dec.{ltb}
-use Rattle.definitions.specs.Basic.{pick, concat}
+use Rattle.definitions.specs.Basic.{pick, bit, concat}
 use Rattle.definitions.specs.Rows.{rowsOf, placeIn}
 use Rattle.definitions.specs.Logs.{Placed, knownIei, notKnown, ignored, keptList, orderList, put}
-use Rattle.placing.specs.Pieces.{Lent, joined, pieceBy, ranged, heldTo, PutBy, Leads}
+use Rattle.placing.specs.Pieces.{Lent, joined, pieceBy, heldTo, PutBy, Leads}
 use Rattle.placing.specs.declared.Passed.{Passed}
+use Rattle.unnamed.specs.Named.{names, unnamed}
 use Rattle.one_pass.specs.declared.Went.{Went}
 use Rattle.one_pass.specs.declared.Pen.{Pen}
 
 -- ---- the entries
 
--- what is written from a place on, by an index and by the entries and the kept elements that are left: before a known entry the places
--- below its own
-unfoldable pub passed : Lent → List ℕ → List Placed → ℕ → List (List ℕ) → Option (List ℕ)
-passed m ix [] c ks = joined (ranged m c (length (rowsOf (m .table)) - c)) (some (concat ks))
-passed m ix (knownIei i ∷ ps) c ks =
+-- what is written from a place on, by an index, by a set of names and by the entries and the kept elements that are left: before a known
+-- entry the unnamed places below its own that none came before
+unfoldable pub passed : Lent → List ℕ → ℕ → List Placed → ℕ → List (List ℕ) → Option (List ℕ)
+passed m ix set [] c ks = joined (unnamed m set c (length (rowsOf (m .table)) - c)) (some (concat ks))
+passed m ix set (knownIei i ∷ ps) c ks =
     elim (placeIn ix i) [
-      | none ↦ passed m ix ps c ks
-      | some k ↦ pick (ltb k c) none (joined (ranged m c (k - c)) (joined (pieceBy m k i) (passed m ix ps (suc k) ks)))
+      | none ↦ passed m ix set ps c ks
+      | some k ↦ pick (ltb k c && not (bit k set)) none (joined (unnamed m set c (k - c)) (joined (pieceBy m k i) (passed m ix set ps (max c (suc k)) ks)))
     ]
-passed m ix (notKnown ∷ ps) c [] = passed m ix ps c []
-passed m ix (notKnown ∷ ps) c (e ∷ ks) = joined (some e) (passed m ix ps c ks)
-passed m ix (ignored r ∷ ps) c [] = passed m ix ps c []
-passed m ix (ignored r ∷ ps) c (e ∷ ks) = joined (some e) (passed m ix ps c ks)
+passed m ix set (notKnown ∷ ps) c [] = passed m ix set ps c []
+passed m ix set (notKnown ∷ ps) c (e ∷ ks) = joined (some e) (passed m ix set ps c ks)
+passed m ix set (ignored r ∷ ps) c [] = passed m ix set ps c []
+passed m ix set (ignored r ∷ ps) c (e ∷ ks) = joined (some e) (passed m ix set ps c ks)
 
 -- the same of what is left of two logs, of which either may be malformed
-unfoldable pub leftBy : Lent → List ℕ → Option (List Placed) → ℕ → Option (List (List ℕ)) → Option (List ℕ)
-leftBy m ix none c ks = none
-leftBy m ix (some ps) c none = none
-leftBy m ix (some ps) c (some ks) = passed m ix ps c ks
+unfoldable pub leftBy : Lent → List ℕ → ℕ → Option (List Placed) → ℕ → Option (List (List ℕ)) → Option (List ℕ)
+leftBy m ix set none c ks = none
+leftBy m ix set (some ps) c none = none
+leftBy m ix set (some ps) c (some ks) = passed m ix set ps c ks
 
 -- all kept elements that are left
 unfoldable pub concatBy : Option (List (List ℕ)) → Option (List ℕ)
 concatBy none = none
 concatBy (some ks) = some (concat ks)
 
--- of two whole logs
+-- all that is left behind the order log
+abbrev pub restBy : Lent → ℕ → List ℕ → Pen → Option (List ℕ)
+restBy m set kept p = joined (unnamed m set (p .place) (length (rowsOf (m .table)) - p .place)) (concatBy (keptList (drop (p .kept) kept)))
+
+-- of two whole logs, by the places that the order log names
 unfoldable pub passedBy : Lent → List ℕ → List ℕ → List ℕ → Option (List ℕ)
-passedBy m ix order kept = leftBy m ix (orderList order) 0 (keptList kept)
+passedBy m ix order kept = leftBy m ix (names ix (m .rows) order (length (rowsOf (m .table)))) (orderList order) 0 (keptList kept)
 
 -- ---- a turn of the pass
 
@@ -76,38 +83,38 @@ NextBy kept p before (Went.To q) after = NextPut kept p before q after
 NextBy kept p before Went.Not after = KeptNot kept p (length before)
 
 -- behind a known entry, whatever is left of both logs
-pub record KnownOn (m : Lent) (ix : List ℕ) (i : ℕ) (p : Pen) (before : List ℕ) (q : Pen) (after : List ℕ) : Type 0 where
-  pub leads : (ps : Option (List Placed)) (ks : Option (List (List ℕ))) → Leads (leftBy m ix (put (knownIei i) ps) (p .place) ks) (p .at) before (leftBy m ix ps (q .place) ks) (q .at) after
+pub record KnownOn (m : Lent) (ix : List ℕ) (set i : ℕ) (p : Pen) (before : List ℕ) (q : Pen) (after : List ℕ) : Type 0 where
+  pub leads : (ps : Option (List Placed)) (ks : Option (List (List ℕ))) → Leads (leftBy m ix set (put (knownIei i) ps) (p .place) ks) (p .at) before (leftBy m ix set ps (q .place) ks) (q .at) after
   pub kept : q .kept ≡ p .kept
   pub room : q .at ≤ length before
 
-abbrev pub KnownBy : Lent → List ℕ → ℕ → Pen → List ℕ → Went → List ℕ → Type 0
-KnownBy m ix i p before (Went.To q) after = KnownOn m ix i p before q after
-KnownBy m ix i p before Went.Not after =
-    (ps : Option (List Placed)) (ks : Option (List (List ℕ))) → heldTo (length before) (p .at) (leftBy m ix (put (knownIei i) ps) (p .place) ks) ≡ Passed.Not
+abbrev pub KnownBy : Lent → List ℕ → ℕ → ℕ → Pen → List ℕ → Went → List ℕ → Type 0
+KnownBy m ix set i p before (Went.To q) after = KnownOn m ix set i p before q after
+KnownBy m ix set i p before Went.Not after =
+    (ps : Option (List Placed)) (ks : Option (List (List ℕ))) → heldTo (length before) (p .at) (leftBy m ix set (put (knownIei i) ps) (p .place) ks) ≡ Passed.Not
 
 -- behind any entry, by what is left of the kept log
-pub record EntryOn (m : Lent) (ix : List ℕ) (kept : List ℕ) (e : Placed) (p : Pen) (before : List ℕ) (q : Pen) (after : List ℕ) : Type 0 where
+pub record EntryOn (m : Lent) (ix : List ℕ) (set : ℕ) (kept : List ℕ) (e : Placed) (p : Pen) (before : List ℕ) (q : Pen) (after : List ℕ) : Type 0 where
   pub leads : (ps : Option (List Placed))
-      → Leads (leftBy m ix (put e ps) (p .place) (keptList (drop (p .kept) kept))) (p .at) before (leftBy m ix ps (q .place) (keptList (drop (q .kept) kept))) (q .at) after
+      → Leads (leftBy m ix set (put e ps) (p .place) (keptList (drop (p .kept) kept))) (p .at) before (leftBy m ix set ps (q .place) (keptList (drop (q .kept) kept))) (q .at) after
   pub inside : q .kept ≤ length kept
   pub room : q .at ≤ length before
 
-abbrev pub EntryBy : Lent → List ℕ → List ℕ → Placed → Pen → List ℕ → Went → List ℕ → Type 0
-EntryBy m ix kept e p before (Went.To q) after = EntryOn m ix kept e p before q after
-EntryBy m ix kept e p before Went.Not after =
-    (ps : Option (List Placed)) → heldTo (length before) (p .at) (leftBy m ix (put e ps) (p .place) (keptList (drop (p .kept) kept))) ≡ Passed.Not
+abbrev pub EntryBy : Lent → List ℕ → ℕ → List ℕ → Placed → Pen → List ℕ → Went → List ℕ → Type 0
+EntryBy m ix set kept e p before (Went.To q) after = EntryOn m ix set kept e p before q after
+EntryBy m ix set kept e p before Went.Not after =
+    (ps : Option (List Placed)) → heldTo (length before) (p .at) (leftBy m ix set (put e ps) (p .place) (keptList (drop (p .kept) kept))) ≡ Passed.Not
 
 -- behind entries, with more left
-pub record Passing (m : Lent) (ix : List ℕ) (order kept before : List ℕ) (ps : Option (List Placed)) (q : Pen) (after : List ℕ) : Type 0 where
-  pub leads : Leads (passedBy m ix order kept) 0 before (leftBy m ix ps (q .place) (keptList (drop (q .kept) kept))) (q .at) after
+pub record Passing (m : Lent) (ix : List ℕ) (set : ℕ) (order kept before : List ℕ) (ps : Option (List Placed)) (q : Pen) (after : List ℕ) : Type 0 where
+  pub leads : Leads (leftBy m ix set (orderList order) 0 (keptList kept)) 0 before (leftBy m ix set ps (q .place) (keptList (drop (q .kept) kept))) (q .at) after
   pub inside : q .kept ≤ length kept
   pub room : q .at ≤ length before
   pub long : length after ≡ length before
 
-abbrev pub EntriesBy : Lent → List ℕ → List ℕ → List ℕ → List ℕ → Went → List ℕ → Type 0
-EntriesBy m ix order kept before (Went.To q) after = Passing m ix order kept before (some []) q after
-EntriesBy m ix order kept before Went.Not after = heldTo (length before) 0 (passedBy m ix order kept) ≡ Passed.Not
+abbrev pub EntriesBy : Lent → List ℕ → ℕ → List ℕ → List ℕ → List ℕ → Went → List ℕ → Type 0
+EntriesBy m ix set order kept before (Went.To q) after = Passing m ix set order kept before (some []) q after
+EntriesBy m ix set order kept before Went.Not after = heldTo (length before) 0 (leftBy m ix set (orderList order) 0 (keptList kept)) ≡ Passed.Not
 
 -- what a message is written as whose kept log has at most 512 octets; none of another
 unfoldable pub shortBy : Lent → List ℕ → List ℕ → List ℕ → Option (List ℕ)

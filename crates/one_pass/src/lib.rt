@@ -1,7 +1,6 @@
 // A message written in one pass: each row is judged and its element put into an array, by the order log where there is one, and all is
-// copied out where there is room. The pass gives up where anything is amiss, where the order log names a place that is not above the one
-// it named before, or where the kept log is too long or the array too short: then nothing is written, and the message has to be measured first.
-use agreement::is_unlike;
+// copied out where there is room. The pass gives up where anything is amiss, where the order log names a place below one that it named before and
+// the rows do not tell so, or where the kept log is too long or the array too short: then nothing is written, and the message has to be measured first.
 use copying::put_slice;
 use kept::Count;
 use kept::entry_at;
@@ -12,24 +11,23 @@ use order::front_at;
 use placing::Passed;
 use placing::copy_out;
 use placing::is_few;
-use placing::put_between;
+use placing::put_logged;
 use plain_writing::write_plain;
-use putting::put_ie;
-use rows::columns::form_of;
-use rows::columns::numbers_at;
 use rows::columns::places;
 use rows::index::Place;
 use rows::index::place_of;
-use values::row::is_good;
-use values::row::row_at;
-use values::row::value_octets;
+use seen::Seen;
+use seen::seen_has;
+use unnamed::names_of;
+use unnamed::put_unnamed;
 ghost use Prim.Native.Nat.{_≤_, _<_};
 ghost use lib.ListN.{length, drop};
 ghost use Rattle.definitions.specs.Rows.{rowsOf};
 ghost use Rattle.definitions.specs.Logs.{keptList};
 ghost use Rattle.order.specs.Order.{placedAs};
-ghost use Rattle.placing.specs.Pieces.{lentOf, pieceBy, PutBy, WroteBy, capacity};
-ghost use Rattle.one_pass.specs.Passes.{concatBy, passedBy, shortBy, KeptBy, NextBy, KnownBy, EntryBy, EntriesBy};
+ghost use Rattle.seen.specs.Seen.{setOf};
+ghost use Rattle.placing.specs.Pieces.{lentOf, PutBy, WroteBy, capacity};
+ghost use Rattle.one_pass.specs.Passes.{concatBy, restBy, passedBy, shortBy, KeptBy, NextBy, KnownBy, EntryBy, EntriesBy};
 
 // The most octets of a kept log that is looked at.
 const MOST_SHORT: usize = 512;
@@ -44,46 +42,6 @@ pub struct Pen {
 pub enum Went {
     To(Pen),
     Not,
-}
-
-// The element of a place under an IEI of the order log, if the place is present. It does by itself what `put_first` of placing does under the
-// first one: where both call one function, that is put into neither, and a message without logs takes a sixth more or worse.
-fn put_logged<'a>(
-    table: &[u32],
-    rows: &[u32],
-    received: &'a [u8],
-    set: &'a [u8],
-    place: usize,
-    iei: u8,
-    out: &mut [u8],
-    at: usize,
-) -> Passed
-    requires { ⌜ at ≤ length (now out) ⌝ }
-    ensures { λ r. ⌜ PutBy (pieceBy (lentOf (now (table .entry)) (now (rows .entry)) (now (received .entry)) (now (set .entry))) place iei) at (now (out .entry)) r (now (out .exit)) ⌝ }
-{
-    let row = row_at(rows, place);
-    if !is_good(row, received, set) {
-        return Passed::Not;
-    }
-    if row.source == 0 {
-        return Passed::To(at);
-    }
-    let n = numbers_at(table, place);
-    if is_unlike(row, iei as u32) {
-        return Passed::Not;
-    }
-    let value = value_octets(received, set, row);
-    let took = put_ie(
-        &mut out[at..],
-        form_of(n.code, n.size),
-        row.source,
-        iei,
-        value,
-    );
-    if took == 0 {
-        return Passed::Not;
-    }
-    Passed::To(at + took)
 }
 
 // The next kept element.
@@ -122,30 +80,36 @@ fn pass_next(kept: &[u8], pen: Pen, out: &mut [u8]) -> Went
     pass_kept(kept, pen, out)
 }
 
-// A known entry: the places below its own that were not looked at, then its own under the logged IEI; nothing of an IEI without a place.
-// Most entries follow that of the place before. Whether there is a place between is asked right here: for a call all that is lent is laid
-// out, also for one that puts nothing, and a message with logs takes a tenth more.
+// A known entry: the unnamed places below its own that were not looked at, then its own under the logged IEI; nothing of an IEI without a
+// place. A place below one that came before is among the named ones, else it was taken for an unnamed one. Most entries follow that of the
+// place before. Whether there is a place between is asked right here: for a call all that is lent is laid out, also for one that puts
+// nothing, and a message with logs takes a tenth more.
 fn pass_known<'a>(
     table: &[u32],
     index: &[u8],
     rows: &[u32],
     received: &'a [u8],
     set: &'a [u8],
+    names: Seen,
     iei: u8,
     pen: Pen,
     out: &mut [u8],
 ) -> Went
     requires { ⌜ pen .at ≤ length (now out) ⌝ }
-    ensures { λ r. ⌜ KnownBy (lentOf (now (table .entry)) (now (rows .entry)) (now (received .entry)) (now (set .entry))) (now (index .entry)) iei pen (now (out .entry)) r (now (out .exit)) ⌝ }
+    ensures { λ r. ⌜ KnownBy (lentOf (now (table .entry)) (now (rows .entry)) (now (received .entry)) (now (set .entry))) (now (index .entry)) (setOf names) iei pen (now (out .entry)) r (now (out .exit)) ⌝ }
 {
     match place_of(index, iei) {
         Place::At(k) => {
-            if k < pen.place {
-                return Went::Not;
-            }
             let mut at = pen.at;
+            let mut place = k + 1;
+            if k < pen.place {
+                if !seen_has(names, k) {
+                    return Went::Not;
+                }
+                place = pen.place;
+            }
             if pen.place < k {
-                match put_between(table, rows, received, set, pen.place, k, out, pen.at) {
+                match put_unnamed(table, rows, received, set, names, pen.place, k, out, pen.at) {
                     Passed::To(next) => {
                         at = next;
                     }
@@ -158,7 +122,7 @@ fn pass_known<'a>(
                 Passed::To(next) => Went::To(Pen {
                     at: next,
                     kept: pen.kept,
-                    place: k + 1,
+                    place,
                 }),
                 Passed::Not => Went::Not,
             }
@@ -175,15 +139,16 @@ fn pass_entry<'a>(
     received: &'a [u8],
     set: &'a [u8],
     kept: &[u8],
+    names: Seen,
     entry: Placed,
     pen: Pen,
     out: &mut [u8],
 ) -> Went
     requires { ⌜ (pen .at ≤ length (now out)) × (pen .kept ≤ length (now kept)) ⌝ }
-    ensures { λ r. ⌜ EntryBy (lentOf (now (table .entry)) (now (rows .entry)) (now (received .entry)) (now (set .entry))) (now (index .entry)) (now (kept .entry)) (placedAs entry) pen (now (out .entry)) r (now (out .exit)) ⌝ }
+    ensures { λ r. ⌜ EntryBy (lentOf (now (table .entry)) (now (rows .entry)) (now (received .entry)) (now (set .entry))) (now (index .entry)) (setOf names) (now (kept .entry)) (placedAs entry) pen (now (out .entry)) r (now (out .exit)) ⌝ }
 {
     match entry {
-        Placed::Known(iei) => pass_known(table, index, rows, received, set, iei, pen, out),
+        Placed::Known(iei) => pass_known(table, index, rows, received, set, names, iei, pen, out),
         _ => pass_next(kept, pen, out),
     }
 }
@@ -197,9 +162,10 @@ fn pass_entries<'a>(
     set: &'a [u8],
     kept: &[u8],
     order: &[u8],
+    names: Seen,
     out: &mut [u8],
 ) -> Went
-    ensures { λ r. ⌜ EntriesBy (lentOf (now (table .entry)) (now (rows .entry)) (now (received .entry)) (now (set .entry))) (now (index .entry)) (now (order .entry)) (now (kept .entry)) (now (out .entry)) r (now (out .exit)) ⌝ }
+    ensures { λ r. ⌜ EntriesBy (lentOf (now (table .entry)) (now (rows .entry)) (now (received .entry)) (now (set .entry))) (now (index .entry)) (setOf names) (now (order .entry)) (now (kept .entry)) (now (out .entry)) r (now (out .exit)) ⌝ }
 {
     let mut pen = Pen {
         at: 0,
@@ -210,7 +176,18 @@ fn pass_entries<'a>(
     while from < order.len() {
         match front_at(&order[from..]) {
             Front::Is(entry) => {
-                match pass_entry(table, index, rows, received, set, kept, entry, pen, out) {
+                match pass_entry(
+                    table,
+                    index,
+                    rows,
+                    received,
+                    set,
+                    kept,
+                    names,
+                    entry,
+                    pen,
+                    out,
+                ) {
                     Went::To(next) => {
                         pen = next;
                         from += entry_len(entry);
@@ -247,7 +224,54 @@ fn pass_left(kept: &[u8], pen: Pen, out: &mut [u8]) -> Passed
     Passed::To(p.at)
 }
 
-// All of a message.
+// What is left behind the order log: the unnamed places, then the kept elements.
+fn pass_rest<'a>(
+    table: &[u32],
+    rows: &[u32],
+    received: &'a [u8],
+    set: &'a [u8],
+    kept: &[u8],
+    names: Seen,
+    pen: Pen,
+    out: &mut [u8],
+) -> Passed
+    requires { ⌜ (pen .at ≤ length (now out)) × (pen .kept ≤ length (now kept)) ⌝ }
+    ensures { λ r. ⌜ PutBy (restBy (lentOf (now (table .entry)) (now (rows .entry)) (now (received .entry)) (now (set .entry))) (setOf names) (now (kept .entry)) pen) (pen .at) (now (out .entry)) r (now (out .exit)) ⌝ }
+{
+    let n = places(&*table);
+    let mut at = pen.at;
+    if pen.place < n {
+        match put_unnamed(
+            &*table,
+            &*rows,
+            &*received,
+            &*set,
+            names,
+            pen.place,
+            n,
+            out,
+            pen.at,
+        ) {
+            Passed::To(next) => {
+                at = next;
+            }
+            Passed::Not => {
+                return Passed::Not;
+            }
+        }
+    }
+    pass_left(
+        &*kept,
+        Pen {
+            at,
+            kept: pen.kept,
+            place: pen.place,
+        },
+        out,
+    )
+}
+
+// All of a message, by the named places.
 fn pass<'a>(
     table: &[u32],
     index: &[u8],
@@ -260,6 +284,7 @@ fn pass<'a>(
 ) -> Passed
     ensures { λ r. ⌜ PutBy (passedBy (lentOf (now (table .entry)) (now (rows .entry)) (now (received .entry)) (now (set .entry))) (now (index .entry)) (now (order .entry)) (now (kept .entry))) 0 (now (out .entry)) r (now (out .exit)) ⌝ }
 {
+    let names = names_of(&*index, &*rows, &*order, places(&*table));
     match pass_entries(
         &*table,
         &*index,
@@ -268,40 +293,10 @@ fn pass<'a>(
         &*set,
         &*kept,
         &*order,
+        names,
         out,
     ) {
-        Went::To(pen) => {
-            let n = places(&*table);
-            let mut at = pen.at;
-            if pen.place < n {
-                match put_between(
-                    &*table,
-                    &*rows,
-                    &*received,
-                    &*set,
-                    pen.place,
-                    n,
-                    out,
-                    pen.at,
-                ) {
-                    Passed::To(next) => {
-                        at = next;
-                    }
-                    Passed::Not => {
-                        return Passed::Not;
-                    }
-                }
-            }
-            pass_left(
-                &*kept,
-                Pen {
-                    at,
-                    kept: pen.kept,
-                    place: pen.place,
-                },
-                out,
-            )
-        }
+        Went::To(pen) => pass_rest(&*table, &*rows, &*received, &*set, &*kept, names, pen, out),
         Went::Not => Passed::Not,
     }
 }

@@ -8,6 +8,7 @@ use denote.Enum.Declared.{tagOf}
 use Rattle.order.specs.Order.{placedAs}
 use Rattle.order.specs.declared.Placed.{Placed}
 use Rattle.order.proofs.Placed.{the-type}
+use Rattle.seen.specs.Seen.{setOf}
 use Rattle.placing.specs.Pieces.{lentOf}
 use Rattle.one_pass.proofs.Turns.{Aside, known-by, aside-turn}
 use borrow.Author.Needs.{needs}
@@ -33,13 +34,13 @@ same-length : tie.Need-same-length
 same-length c = search needs
 
 returns : tie.Need-returns
-returns c = let a = c .before .before .before .before .before .before .before .before .before .before .before .before .before .before .args in rw (c .before .before .before .before .before .entry .given .1) (known-by (lentOf (a .table .now) (a .rows .now) (a .received .now) (a .set .now)) (a .index .now) (c .before .before .before .before .before .entry .given .0 .0) (a .pen) (a .out .now) (a .kept .now) (c .before .before .pass-known .last .1 .1 .1 .1 .1 .1 .1 .0) (c .before .before .before .before .before .before .before .before .before .before .before .before .before .before .pre .1) (c .before .before .pass-known .result) (c .before .before .pass-known .ensures))
+returns c = let a = c .before .before .before .before .before .before .before .before .before .before .before .before .before .before .args in rw (c .before .before .before .before .before .entry .given .1) (known-by (lentOf (a .table .now) (a .rows .now) (a .received .now) (a .set .now)) (a .index .now) (setOf (a .names)) (c .before .before .before .before .before .entry .given .0 .0) (a .pen) (a .out .now) (a .kept .now) (c .before .before .pass-known .last .1 .1 .1 .1 .1 .1 .1 .1 .0) (c .before .before .before .before .before .before .before .before .before .before .before .before .before .before .pre .1) (c .before .before .pass-known .result) (c .before .before .pass-known .ensures))
 
 same-length-2 : tie.Need-same-length-2
 same-length-2 c = search needs
 
 returns-2 : tie.Need-returns-2
-returns-2 c = let a = c .before .before .before .before .before .before .before .before .before .before .before .before .args in aside-turn (lentOf (a .table .now) (a .rows .now) (a .received .now) (a .set .now)) (a .index .now) (a .kept .now) (placedAs (a .entry)) (aside-of (a .entry) (c .before .before .before .before .match .keys2)) (a .pen) (a .out .now) (c .before .before .pass-next .last .1 .1 .0) (c .before .before .before .before .before .before .before .before .before .before .before .before .pre .0) (c .before .before .before .before .before .before .before .before .before .before .before .before .pre .1) (c .before .before .pass-next .result) (c .before .before .pass-next .ensures)
+returns-2 c = let a = c .before .before .before .before .before .before .before .before .before .before .before .before .args in aside-turn (lentOf (a .table .now) (a .rows .now) (a .received .now) (a .set .now)) (a .index .now) (setOf (a .names)) (a .kept .now) (placedAs (a .entry)) (aside-of (a .entry) (c .before .before .before .before .match .keys2)) (a .pen) (a .out .now) (c .before .before .pass-next .last .1 .1 .0) (c .before .before .before .before .before .before .before .before .before .before .before .before .pre .0) (c .before .before .before .before .before .before .before .before .before .before .before .before .pre .1) (c .before .before .pass-next .result) (c .before .before .pass-next .ensures)
 
 pub pass-entry-spec : {M : Type 1} → statement M
 pass-entry-spec =
