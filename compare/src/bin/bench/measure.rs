@@ -1,5 +1,6 @@
 //! How a call is measured, and the lines that are printed of it.
 
+use std::hint::black_box;
 use std::time::{Duration, Instant};
 
 /// How a call is measured.
@@ -26,8 +27,16 @@ impl Way {
 }
 
 /// A round of a measurement lasts about so long; the best of the rounds counts.
-const ROUND: Duration = Duration::from_millis(12);
-const ROUNDS: usize = 6;
+const ROUND: Duration = Duration::from_millis(8);
+const ROUNDS: usize = 3;
+
+/// A line is measured with buffers and stack in so many places, and the best of them counts for each side: by where they happen to lie
+/// alone a short call takes a fifth more or less, and a copy of a long value up to five times as long.
+const PLACES: usize = 4;
+
+/// What is held of the heap at a place, and so many octets more at each: what is made next lies elsewhere, whatever its length.
+const HELD: [usize; 4] = [1_040, 9_232, 66_576, 132_112];
+const FURTHER: usize = 1_040;
 
 /// The logarithms of the ratios of some lines, for their geometric mean.
 #[derive(Default)]
@@ -90,6 +99,32 @@ impl Lines {
             println!();
         }
     }
+}
+
+/// Seconds a call of each at the best of the places, where `times` makes its buffers anew for each, by its number.
+pub fn at_places(mut times: impl FnMut(usize) -> (f64, f64)) -> (f64, f64) {
+    let mut held = Vec::new();
+    let mut shortest = (f64::MAX, f64::MAX);
+    for place in 0..PLACES {
+        held.extend(HELD.map(|octets| vec![1_u8; octets + place * FURTHER]));
+        let (our_time, rust_time) = deeper(place, &mut || times(place));
+        shortest = (shortest.0.min(our_time), shortest.1.min(rust_time));
+    }
+    shortest
+}
+
+/// What is held at a place between octets that are copied and where they are copied to.
+pub fn apart(place: usize) -> Vec<u8> {
+    vec![1; HELD[2] + place * FURTHER]
+}
+
+/// What it gives so many frames further down the stack.
+#[inline(never)]
+fn deeper(frames: usize, times: &mut dyn FnMut() -> (f64, f64)) -> (f64, f64) {
+    let frame = black_box([0_u8; FURTHER]);
+    let found = if frames == 0 { times() } else { deeper(frames - 1, times) };
+    black_box(&frame);
+    found
 }
 
 /// Seconds a call of each in the best of its rounds, which come in turn.

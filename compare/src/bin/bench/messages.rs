@@ -64,7 +64,12 @@ pub fn unknown_between(elements: &[Vec<u8>]) -> Vec<u8> {
 
 /// A part as reading leaves it.
 pub fn read(table: &[u32], part: Vec<u8>) -> Filled {
-    let reading = Model::new(table).read(&part, START, false).expect("the parts here are not cut short");
+    read_with(table, part, false)
+}
+
+/// The same, with elements out of sequence accepted or set aside.
+pub fn read_with(table: &[u32], part: Vec<u8>, out_of_sequence: bool) -> Filled {
+    let reading = Model::new(table).read(&part, START, out_of_sequence).expect("the parts here are not cut short");
     let places = Places { rows: reading.rows, received: part, set: Octets::default() };
     Filled { places, kept: Octets::all(reading.kept), order: Octets::all(reading.order) }
 }

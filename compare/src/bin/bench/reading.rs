@@ -9,7 +9,7 @@ use compare::oracle::{self, Logs, Table};
 use compare::rows::{PLACE, START};
 
 use crate::Sides;
-use crate::measure::{Lines, WAYS, Way, best};
+use crate::measure::{Lines, WAYS, Way, at_places, best};
 use crate::messages::{NAMES, SIXTEEN, element, every, repeat, unknown_between};
 
 /// An input: a part and the number of the table that it is read by.
@@ -57,7 +57,7 @@ pub fn reading(sides: &Sides) -> Result<(), String> {
     for input in inputs(&sides.tables.optional) {
         let bench = Bench::new(sides, &input)?;
         for way in WAYS {
-            lines.line(&input.name, input.part.len(), way.words(), bench.times(way));
+            lines.line(&input.name, input.part.len(), way.words(), at_places(|_| bench.times(way)));
         }
     }
     lines.end();

@@ -10,8 +10,8 @@ use compare::oracle::Table;
 use compare::oracle_writing;
 
 use crate::Sides;
-use crate::measure::{Lines, WAYS, Way, best};
-use crate::messages::{NAMES, SIXTEEN, element, every, read, repeat, set, unknown_between, value};
+use crate::measure::{Lines, WAYS, Way, apart, at_places, best};
+use crate::messages::{NAMES, SIXTEEN, element, every, read, read_with, repeat, set, unknown_between, value};
 
 /// A message that is written, and the number of its table.
 struct Written {
@@ -59,7 +59,8 @@ fn messages(tables: &[Vec<u32>]) -> Vec<Written> {
     messages
 }
 
-/// Messages whose order log names a place below one that it named before.
+/// Messages whose elements came out of sequence: set aside, so that they are kept, or accepted, so that the order log names a place
+/// below one that it named before.
 fn out_of_sequence(tables: &[Vec<u32>]) -> Vec<Written> {
     let mut messages = Vec::new();
     for number in 1..=6 {
@@ -68,8 +69,11 @@ fn out_of_sequence(tables: &[Vec<u32>]) -> Vec<Written> {
         let mut last_first = all.clone();
         last_first.rotate_right(1);
         let backward: Vec<u8> = all.iter().rev().flatten().copied().collect();
-        for (what, part) in [("the last element first", last_first.concat()), ("backward", backward)] {
-            messages.push(Written { name: format!("{}, {what}", NAMES[number]), number, filled: read(table, part) });
+        for (what, part) in [("last first", last_first.concat()), ("backward", backward)] {
+            for (done, accepted) in [("set aside", false), ("accepted", true)] {
+                let filled = read_with(table, part.clone(), accepted);
+                messages.push(Written { name: format!("{}, {what}, {done}", NAMES[number]), number, filled });
+            }
         }
     }
     messages
@@ -94,7 +98,7 @@ fn lines_of(sides: &Sides, family: &'static str, messages: Vec<Written>) -> Resu
     for written in messages {
         let bench = Bench::new(sides, ours, &written)?;
         for way in WAYS {
-            lines.line(&written.name, bench.octets, way.words(), bench.times(way));
+            lines.line(&written.name, bench.octets, way.words(), at_places(|place| bench.times(way, place)));
         }
     }
     lines.end();
@@ -120,7 +124,7 @@ impl<'a> Bench<'a> {
     }
 
     /// Seconds a call, of ours and of the Rust.
-    fn times(&self, way: Way) -> (f64, f64) {
+    fn times(&self, way: Way, place: usize) -> (f64, f64) {
         let number = self.written.number as u32;
         let mut output = vec![0; self.octets];
         let mut values = [0; 5];
@@ -144,6 +148,7 @@ impl<'a> Bench<'a> {
             order: &order.octets,
         };
         let logs = oracle_writing::Logs::new(&filled);
+        let _held = apart(place);
         let mut buffer = Vec::new();
         let mut rust = || {
             match way {
