@@ -9,12 +9,10 @@ use recorded::LENT_TABLE;
 use recorded::after;
 use recorded::answer::answer_is;
 use recorded::answer_end;
-use recorded::cell;
 use recorded::counts::print_counts;
 use recorded::counts::report;
 use recorded::four;
 use recorded::front;
-use recorded::lent::LENT_NUMBER;
 use recorded::lent::lent_numbers;
 use recorded::lent::lent_octets;
 use recorded::lent::numbers_at;
@@ -29,6 +27,7 @@ use recorded::octet;
 use recorded::string_end;
 use recorded::string_len;
 use recorded::two;
+use recorded_rows::places_are;
 
 // A case of the list: how it is read, how much is lent, and where its parts stand.
 struct Case {
@@ -76,69 +75,7 @@ fn case_at(list: &[u8], at: usize) -> Case {
     }
 }
 
-// ---- place rows
-
-fn is_from(s: &[u32], at: usize, x: u32) -> bool {
-    let mut i = at;
-    while i < s.len() {
-        if s[i] != x {
-            return false;
-        }
-        i += 1;
-    }
-    true
-}
-
-fn row_is(rows: &[u32], at: usize, source: usize, start: usize, len: usize, iei: usize) -> bool {
-    cell(rows, at) as usize == source
-        && cell(rows, after(at, 1)) as usize == start
-        && cell(rows, after(at, 2)) as usize == len
-        && cell(rows, after(at, 3)) as usize == iei
-}
-
-// Whether a row is the recorded place there, or four times 0.
-fn place_is(list: &[u8], at: usize, is_present: bool, rows: &[u32], row_at: usize) -> bool {
-    if !is_present {
-        return row_is(rows, row_at, 0, 0, 0, 0);
-    }
-    row_is(
-        rows,
-        row_at,
-        1,
-        two(list, after(at, 1)),
-        two(list, after(at, 3)),
-        octet(list, after(at, 5)) as usize,
-    )
-}
-
-// Whether the next recorded place, if there is one, is k.
-fn is_next(list: &[u8], at: usize, end: usize, k: usize) -> bool {
-    at < end && octet(list, at) as usize == k
-}
-
-fn behind_place(at: usize, is_present: bool) -> usize {
-    if is_present {
-        return after(at, 6);
-    }
-    at
-}
-
-// Whether n rows are the recorded places, which stand in their order, and what was lent behind them.
-fn places_are(list: &[u8], at: usize, end: usize, n: usize, rows: &[u32]) -> bool {
-    let mut p = after(at, 1);
-    let mut row_at = 0;
-    let mut k = 0;
-    while k < n {
-        let is_present = is_next(list, p, end, k);
-        if !place_is(list, p, is_present, rows, row_at) {
-            return false;
-        }
-        p = behind_place(p, is_present);
-        row_at = after(row_at, 4);
-        k += 1;
-    }
-    p == end && is_from(rows, row_at, LENT_NUMBER)
-}
+// ---- how many rows are written
 
 // How many rows a table has.
 fn table_rows(number: u8, cells: usize) -> usize {
