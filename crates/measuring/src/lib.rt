@@ -1,4 +1,4 @@
-// How much reading a part needs of the lent logs, before anything is written.
+// How much reading a part needs of the lent logs, before anything is written; and whether memory holds what any part of a length needs.
 use elements::next::start_state;
 use elements::walk::Stepped;
 use elements::walk::steps;

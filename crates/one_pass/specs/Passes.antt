@@ -1,6 +1,6 @@
 -- A message written in one pass, place by place and entry by entry: what it is written as where its logs are well formed, and every row is
--- well formed, agrees with the log and fits; else none. A place that the order log names below one that it named before has to be in a set of names, or
--- there is none either. A pass goes by the numbers of a table and by an index as they are lent. Where it gives octets, by a table that
+-- well formed, agrees with the log and fits; else none. A place that the order log names and that is not above all that it named before has to be
+-- in the set of names; else there is none either. A pass goes by the numbers of a table and by an index as they are lent. Where it gives octets, by a table that
 -- passes and its own index, they are those of writing: `wholly`.
 use Prim.Native.Nat.{ℕ, suc, _+_, _-_, _≤_, _<_, max}
 use mathlib.Core.Path.{_≡_}

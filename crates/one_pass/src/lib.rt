@@ -1,6 +1,7 @@
 // A message written in one pass: each row is judged and its element put into an array, by the order log where there is one, and all is
-// copied out where there is room. The pass gives up where anything is amiss, where the order log names a place below one that it named before and
-// the rows do not tell so, or where the kept log is too long or the array too short: then nothing is written, and the message has to be measured first.
+// copied out where there is room. The pass gives up where anything is amiss, where the order log names a place that is not above all that it named
+// before and the rows do not tell that places fall, or where the kept log is too long or the array too short: then nothing is written, and the message has
+// to be measured first.
 use copying::put_slice;
 use kept::Count;
 use kept::entry_at;
@@ -81,7 +82,7 @@ fn pass_next(kept: &[u8], pen: Pen, out: &mut [u8]) -> Went
 }
 
 // A known entry: the unnamed places below its own that were not looked at, then its own under the logged IEI; nothing of an IEI without a
-// place. A place below one that came before is among the named ones, else it was taken for an unnamed one. Most entries follow that of the
+// place. A place that was passed has to be among the names: else it was put before, and the pass ends. Most entries follow that of the
 // place before. Whether there is a place between is asked right here: for a call all that is lent is laid out, also for one that puts
 // nothing, and a message with logs takes a tenth more.
 fn pass_known<'a>(

@@ -99,7 +99,7 @@ pub fn put_between<'a>(
 }
 
 // The element of a place under an IEI of the order log, if the place is present, behind a position. It does by itself what `put_first` does under
-// the first one: where both call one function, that is put into neither, and a message without logs takes a sixth more or worse.
+// the first one: where both call one function, that is put into neither, and a message without logs takes a sixth more, or worse.
 pub fn put_logged<'a>(
     table: &[u32],
     rows: &[u32],

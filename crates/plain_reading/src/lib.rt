@@ -1,5 +1,6 @@
 // Reading by number a part of which the table says all: every element is accepted, in table order, under its row's first IEI, so that
-// both logs stay empty, whatever the option. The table is not laid out: what it says of each IEI is asked.
+// both logs stay empty, whatever the option. The table is not laid out: what it says of each IEI is asked. Rows are copied and cleared here, and logs
+// cleared, for other crates too.
 use elements::element::NO_PLACE;
 use elements::element::fit_of;
 use elements::element::header;

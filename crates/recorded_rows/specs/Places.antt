@@ -8,12 +8,12 @@ use Rattle.definitions.specs.Basic.{pick}
 use Rattle.recorded.specs.Format.{after, numberFrom}
 use Rattle.recorded.specs.Lent.{lentNumber}
 
--- whether all numbers are one
+-- whether all numbers are x
 unfoldable pub allAre : ℕ → List ℕ → Bool
 allAre x [] = true
 allAre x (y ∷ s) = eqb y x && allAre x s
 
--- whether the row at a position has four numbers
+-- whether the row at a position is these four numbers
 unfoldable pub rowIs : List ℕ → ℕ → ℕ → ℕ → ℕ → ℕ → Bool
 rowIs rows at source start size iei =
     eqb (getD rows at 0) source && (eqb (getD rows (after at 1) 0) start && (eqb (getD rows (after at 2) 0) size && eqb (getD rows (after at 3) 0) iei))

@@ -1,4 +1,5 @@
-// Whether place rows are the recorded ones: of a list of present places, each with its number, start, length and IEI, and what was lent.
+// Whether place rows are the recorded ones, by a list of the present places, each with its number, start, length and IEI, and whether what is behind them
+// is as it was lent.
 use recorded::after;
 use recorded::cell;
 use recorded::lent::LENT_NUMBER;
@@ -9,7 +10,7 @@ ghost use lib.ListN.{drop};
 ghost use Rattle.recorded.specs.Format.{after as after-of};
 ghost use Rattle.recorded_rows.specs.Places.{allAre, rowIs, placeIs, nextIs, behindPlace, placesFrom};
 
-// Whether all numbers from a position on are one.
+// Whether all numbers from a position on are x.
 fn is_from(s: &[u32], at: usize, x: u32) -> bool
     ensures { λ r. ⌜ r ≡ allAre x (drop at (now (s .entry))) ⌝ }
 {

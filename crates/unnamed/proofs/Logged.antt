@@ -1,4 +1,4 @@
--- The names of a well-formed log by a table's own index are places that it logs.
+-- The names of a well-formed log, by the index of a table that passes, are places that it logs.
 -- By induction on the entries: each adds the place of its IEI, or nothing.
 use Prim.Native.Nat.{ℕ, zero, suc, _≤_}
 use native.Mathlib.Omega.{arith}

@@ -1,5 +1,5 @@
--- An order log an entry on, places one on, and what a set of names is to the entries of a well-formed log.
--- Each by the first octet or by one place; the last by induction on the octets.
+-- An order log an entry on, places one on, the elements of places that are not named, and the names by the test of the rows.
+-- Each by the first octet or by one place; those of several places by induction on how many.
 use Prim.Native.Nat.{ℕ, zero, suc, _+_, _-_, _≤_, _<_}
 use native.Mathlib.Omega.{arith}
 use native.Mathlib.Numerals.{add-one}

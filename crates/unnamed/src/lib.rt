@@ -66,7 +66,7 @@ fn starts_fall(rows: &[u32], places: usize) -> bool
     false
 }
 
-// The places that an order log names, where so many were received in another order than the table's; else none.
+// The places that an order log names, where the first so many were received in another order than the table's; else none.
 pub fn names_of(index: &[u8], rows: &[u32], order: &[u8], places: usize) -> Seen
     ensures { λ r. ⌜ setOf r ≡ names (now (index .entry)) (now (rows .entry)) (now (order .entry)) places ⌝ }
 {
@@ -95,7 +95,7 @@ fn is_bare(rows: &[u32], received: &[u8], set: &[u8], from: usize, to: usize) ->
 }
 
 // The elements of the places from one on, up to another, that a set does not name, each under its first IEI, behind a position. Most
-// messages have none between two logged ones: they are looked through first.
+// messages have none between two logged ones: so the rows are looked through first.
 pub fn put_unnamed<'a>(
     table: &[u32],
     rows: &[u32],

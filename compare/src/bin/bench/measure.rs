@@ -30,11 +30,13 @@ impl Way {
 const ROUND: Duration = Duration::from_millis(8);
 const ROUNDS: usize = 3;
 
-/// A line is measured with buffers and stack in so many places, and the best of them counts for each side: by where they happen to lie
-/// alone a short call takes a fifth more or less, and a copy of a long value up to five times as long.
+/// A line of reading or writing is measured with buffers and stack in so many places, and the best of them counts for each
+/// side: by where they happen to lie alone a short call takes a fifth more or less, and a copy of a long value up to five
+/// times as long.
 const PLACES: usize = 4;
 
-/// What is held of the heap at a place, and so many octets more at each: what is made next lies elsewhere, whatever its length.
+/// What is held of the heap at a place, and so many octets more at each: what is made next lies elsewhere, whatever its
+/// length.
 const HELD: [usize; 4] = [1_040, 9_232, 66_576, 132_112];
 const FURTHER: usize = 1_040;
 

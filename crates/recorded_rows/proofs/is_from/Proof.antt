@@ -1,4 +1,4 @@
--- `is_from` looks at a number a turn: what is left of the numbers are all one where all of them are.
+-- `is_from` looks at a number a turn: the numbers that are left are all x where all of them are.
 -- The measure is what is left.
 use Prim.Native.Nat.{_-_}
 use native.Mathlib.Omega.{arith}
