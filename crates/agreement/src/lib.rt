@@ -1,5 +1,7 @@
 // Whether the rows of places agree with the order log: each present one has the earliest IEI that the log gives its place, or the
 // place's first where the log gives none.
+#![tactic(auto)]
+
 ghost use Rattle.std.specs.Prelude.{◌≡◌, ◌||◌};
 ghost use Rattle.definitions.specs.Values.{unlike};
 ghost use Rattle.seen.specs.Seen.{set_of};

@@ -1,5 +1,7 @@
 // Each answer as document 01's number, which is returned, and its values in five lent places: how many there are, then the
 // values in document 01's order. The places behind them stay as they were.
+#![tactic(auto)]
+
 ghost use Rattle.std.specs.Prelude.{◌≡◌, [], ◌∷◌};
 ghost use Rattle.definitions.specs.Basic.{answer};
 ghost use Rattle.definitions.specs.Logs.{order_entry};

@@ -14,7 +14,7 @@ use Rattle.definitions.specs.Basic.{pick, Answer, answer, refusal, unless}
 use Rattle.definitions.specs.Rows.{Row, rows_of, row_at, form, first_iei, iei_of, place_of}
 use Rattle.definitions.specs.Tables.{table_of, start_of}
 use Rattle.definitions.specs.Length.{whole, unknown_form, unknown_length, missing, required}
-use Rattle.definitions.specs.Elements.{unknown, Element, is_accepted, iei_at, Met, nothing_met, meet, taken, octets_of, known, stranger, Step, next, cut, stranger_step, place_step, step, Parted, cut_short, before, step_then, parted_f, parted, elements_of}
+use Rattle.definitions.specs.Elements.{unknown, Element, is_accepted, iei_at, Met, nothing_met, meet, octets_of, known, stranger, Step, next, cut, stranger_step, place_step, step, Parted, cut_short, before, step_then, parted_f, parted, elements_of}
 use Rattle.definitions.specs.Logs.{plain_at}
 use Rattle.definitions.specs.Reading.{cut_of}
 use Rattle.definitions.specs.Checking.{offender, checking, checking_by}

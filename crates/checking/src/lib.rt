@@ -1,5 +1,7 @@
 // Checking an optional part that another program made: one pass up to the first offender, and from there on for a cut alone, since a
 // part that is cut short is refused as such wherever an offender stands. Nothing is lent to be written.
+#![tactic(auto)]
+
 ghost use Rattle.std.specs.Prelude.{◌≡◌, ℕ};
 ghost use Rattle.definitions.specs.Rows.{rows_of};
 ghost use Rattle.definitions.specs.Checking.{checking, checking_by};
@@ -13,7 +15,7 @@ use order::Placed;
 use rows::columns::numbers_at;
 
 // What the checker answers: the part is accepted; the start of its first offender; or a refusal of reading.
-#[derive(Drop)]
+#[derive(Clone, Copy)]
 pub enum PartCheck {
     Accepted,
     Offends(usize),
@@ -25,7 +27,7 @@ pub enum PartCheck {
 
 // What is left of a part: whole elements; or one that is cut short and must be understood, by its start, first octet, octets to the
 // end and octets missing.
-#[derive(Drop)]
+#[derive(Clone, Copy)]
 pub enum Rest {
     Whole,
     Cut(usize, u8, usize, usize),

@@ -1,4 +1,6 @@
 // The table checks of document 01: a table passes, or its first bad row. Any numbers get an answer, and the table is read once.
+#![tactic(auto)]
+
 ghost use Rattle.std.specs.Prelude.{◌≡◌, true, ◌&&◌, ◌||◌, not, ◌+◌, ◌<◌, suc, length, drop, eqb, leb};
 ghost use Rattle.std.proofs.Math.Option.{none};
 ghost use Rattle.definitions.specs.Basic.{pick, is_none, most_kinds};
@@ -21,7 +23,7 @@ const MOST_PLACES: usize = 128;
 
 const MOST_MANDATORY: usize = 32;
 
-#[derive(Drop)]
+#[derive(Clone, Copy)]
 pub enum Checked {
     Passes,
     BadRow(usize),

@@ -1,5 +1,7 @@
 // Copying octets into a lent buffer. The compiler cannot know that the two do not overlap, so a plain loop stays a loop; octets
 // that are taken into a local array first and put out of it then become one move of memory, and the array is gone.
+#![tactic(auto)]
+
 ghost use Rattle.std.specs.Prelude.{◌≡◌, ◌+◌, ◌≤◌, length, take};
 ghost use Rattle.definitions.specs.Basic.{over};
 

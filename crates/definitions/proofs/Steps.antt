@@ -170,7 +170,7 @@ module _ (t : List Row) (start : ℕ) (option : Bool) where
   parts_f zero h end = refl
   parts_f (suc f) h end = refl
   parts_f zero h (more d r) = let f = stands-front t start option d in absurd (omega arith)
-  parts_f (suc f) h (more d r) = rw (stands-step t start option d, parts_f f (left d h) r)
+  parts_f {m = m} (suc f) h (more {m' = m'} d r) = rw (stands-step t start option d, parts_f {m = m'} f (left d h) r)
 
   pub reads : {s : List ℕ} {es : List Element} → parted t start option s ≡ elements es → Reads t start option nothing_met 0 s es
   unfolding parted

@@ -1,5 +1,5 @@
 -- What all definitions share: choices, an answer, the checks of a public call, lent memory and the value rule.
-use Rattle.std.specs.Prelude.{ℕ, ◌+◌, ◌/◌, ◌%◌, ◌^◌, List, [], ◌∷◌, ◌++◌, Bool, true, false, ◌||◌, length, take, drop, eqb, ltb}
+use Rattle.std.specs.Prelude.{ℕ, ◌/◌, ◌%◌, ◌^◌, List, [], ◌∷◌, ◌++◌, Bool, true, false, ◌||◌, length, take, drop, eqb, ltb}
 use Rattle.std.proofs.Math.Option.{Option, none, some}
 
 -- ---- choices

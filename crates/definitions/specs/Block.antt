@@ -1,5 +1,5 @@
 -- Reading into one block (document 02, item 11): the kept log first, the order log directly behind it.
-use Rattle.std.specs.Prelude.{ℕ, ◌+◌, List, [], ◌∷◌, ◌++◌, Bool, length, take, drop, ltb}
+use Rattle.std.specs.Prelude.{ℕ, List, [], ◌∷◌, ◌++◌, Bool, length, take, drop, ltb}
 use Rattle.std.proofs.Math.Option.{Option, none, some}
 use Rattle.definitions.specs.Basic.{Answer, answer, refusal, refuse, unless, over}
 use Rattle.definitions.specs.Rows.{Row, rows_of}

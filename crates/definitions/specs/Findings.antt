@@ -1,7 +1,6 @@
 -- `optional_ie_order_findings` ("Pieces in port order", 6): the number of an entry and what is wrong with it.
 use Rattle.std.specs.Prelude.{ℕ, suc, ◌*◌, max, List, [], ◌∷◌, ◌||◌, length, get_or, ltb}
 use Rattle.std.proofs.Math.Option
-use Rattle.std.proofs.Math.Option.{none}
 use Rattle.definitions.specs.Basic.{pick, is_none, concat, Answer, answer, refusal, refuse, refuse_at, unless, Used, content, too_long, most_log, over}
 use Rattle.definitions.specs.Rows.{Row, rows_of, iei_of, place_of, first_bad}
 use Rattle.definitions.specs.Logs.{Placed, known_iei, not_known, ignored, Reason, by_form, again, late, kept_list, order_list, or_empty}

@@ -14,7 +14,6 @@ use Rattle.definitions.specs.Basic.{pick, is_none, bit}
 use Rattle.definitions.specs.Rows.{Row, rows_of, first_iei, first_bad, place_of, place_in}
 use Rattle.definitions.specs.Elements.{including}
 use Rattle.definitions.specs.Logs.{Placed, known_iei, not_known, ignored, Reason, order_entry, order_list, or_empty, iei_for}
-use Rattle.definitions.specs.Values.{apart}
 use Rattle.definitions.proofs.BitLaws.{bit-including}
 use Rattle.definitions.proofs.Orders.{order_front}
 use Rattle.definitions.proofs.RowLaws.{listed}

@@ -1,5 +1,7 @@
 // Editing the rows of places: a value is set behind the set octets that are used, or a place is made absent. No log is touched; setting
 // is handed the order log for the IEI of the place.
+#![tactic(auto)]
+
 mod log;
 
 ghost use Rattle.std.specs.Prelude.{◌≡◌, [], ◌∷◌, ◌+◌, ◌*◌, ◌≤◌, length};
@@ -21,7 +23,7 @@ use values::check::{PlaceCheck, bad_place, check_place, check_room};
 use values::row::does_fit;
 
 // What an edit answers: the set octets then used, a place cleared, or a refusal.
-#[derive(Drop)]
+#[derive(Clone, Copy)]
 pub enum Edited {
     Set(usize),
     Cleared,

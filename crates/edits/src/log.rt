@@ -17,7 +17,7 @@ use rows::index::{Place, place_of};
 use seen::{Seen, seen_has, seen_with};
 
 // The places that the log named so far, whether a row disagrees with the earliest IEI of its place, and the IEI of a wanted place.
-#[derive(Drop)]
+#[derive(Clone, Copy)]
 pub struct Agreed {
     pub seen: Seen,
     pub apart: bool,
@@ -25,7 +25,7 @@ pub struct Agreed {
 }
 
 // A row that disagrees with the log; or the IEI that it gives a wanted place.
-#[derive(Drop)]
+#[derive(Clone, Copy)]
 pub enum Judged {
     Apart,
     Iei(u32),

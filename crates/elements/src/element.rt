@@ -24,7 +24,7 @@ use seen::{Seen, seen_with};
 pub const NO_PLACE: usize = 255;
 
 // Where reading is: the position, the places met, and the highest of them.
-#[derive(Drop)]
+#[derive(Clone, Copy)]
 pub struct State {
     pub at: usize,
     pub seen: Seen,
@@ -32,7 +32,7 @@ pub struct State {
 }
 
 // An element: its start and length, its IEI, its place or NO_PLACE, and how it came.
-#[derive(Drop)]
+#[derive(Clone, Copy)]
 pub struct Element {
     pub start: usize,
     pub len: usize,
@@ -43,7 +43,7 @@ pub struct Element {
 
 // What stands at a position: an element and where reading is behind it; an unknown element that is cut short and must be
 // understood, by its start, first octet, octets to the end and octets missing; or the end.
-#[derive(Drop)]
+#[derive(Clone, Copy)]
 pub enum Step {
     Next(Element, State),
     Cut(usize, u8, usize, usize),
@@ -51,7 +51,7 @@ pub enum Step {
 }
 
 // How many octets an element has by its row, and whether the row takes it.
-#[derive(Drop)]
+#[derive(Clone, Copy)]
 pub struct Fit {
     pub len: usize,
     pub taken: bool,
@@ -59,7 +59,7 @@ pub struct Fit {
 
 // How an element came: so many octets, by a verdict; or an unknown element that is cut short and must be understood, by the
 // octets missing.
-#[derive(Drop)]
+#[derive(Clone, Copy)]
 pub enum Came {
     Is(usize, Placed),
     Cut(usize),
@@ -274,8 +274,8 @@ pub fn element_step(
     option: bool,
     state: State,
 ) -> Step
-    ensures value { result ≡ stands_at (rows_by table.now index.now) tlve_start option part.now state }
-    ensures value_2 { Indexed table.now index.now → result ≡ stands_at (rows_of table.now) tlve_start option part.now state }
+    ensures by_index { result ≡ stands_at (rows_by table.now index.now) tlve_start option part.now state }
+    ensures own_index { Indexed table.now index.now → result ≡ stands_at (rows_of table.now) tlve_start option part.now state }
 {
     let at = state.at;
     if at >= part.len() {

@@ -10,7 +10,7 @@ use octets::MOST_OCTETS;
 use seen::Seen;
 
 // What stands at a state's position, or a refusal: the part is too long, or the table fails its check.
-#[derive(Drop)]
+#[derive(Clone, Copy)]
 pub enum NextElement {
     Next(Element, State),
     Cut(usize, u8, usize, usize),

@@ -13,13 +13,13 @@ use rows::columns::numbers_at;
 use seen::seen_has;
 
 // What elements need: octets of the kept log, and of an order log with an entry for each.
-#[derive(Drop)]
+#[derive(Clone, Copy)]
 pub struct Tally {
     pub kept: usize,
     pub order: usize,
 }
 
-#[derive(Drop)]
+#[derive(Clone, Copy)]
 pub struct Walk {
     pub state: State,
     pub placed: Placed,
@@ -27,7 +27,7 @@ pub struct Walk {
 }
 
 // Behind the last element; or the unknown element that is cut short: its start, first octet, octets to the end and octets missing.
-#[derive(Drop)]
+#[derive(Clone, Copy)]
 pub enum Stepped {
     To(Walk),
     Cut(usize, u8, usize, usize),

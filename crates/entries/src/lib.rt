@@ -1,4 +1,6 @@
 // An entry of the order log from a number and an IEI.
+#![tactic(auto)]
+
 ghost use Rattle.std.specs.Prelude.{◌≡◌};
 ghost use Rattle.kept.specs.Kept.{pushed_as, used_of};
 ghost use Rattle.order.specs.Order.{front_as};

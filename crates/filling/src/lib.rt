@@ -1,5 +1,7 @@
 // What reading writes of a part by a table and any index, with an entry in the order log for each element: into arrays of a caller's
 // own, and into lent memory once it is known that there is room.
+#![tactic(auto)]
+
 mod fill;
 
 ghost use Rattle.std.specs.Prelude.{◌≡◌, length};
@@ -15,7 +17,7 @@ use plain_reading::{clear_all, clear_rows};
 use rows::columns::places;
 
 // What a refusal for want of room names.
-#[derive(Drop)]
+#[derive(Clone, Copy)]
 pub enum Room {
     Rows,
     Kept,
@@ -23,7 +25,7 @@ pub enum Room {
 }
 
 // What reading answers: the octets used of the kept log and the order log, or a refusal.
-#[derive(Drop)]
+#[derive(Clone, Copy)]
 pub enum Decoded {
     Done(usize, usize),
     CutShort(usize, u8, usize, usize),
@@ -34,7 +36,7 @@ pub enum Decoded {
 }
 
 // What filling arrays answers: the octets used of each log; the unknown element that is cut short; or that the arrays may not hold all.
-#[derive(Drop)]
+#[derive(Clone, Copy)]
 pub enum Filled {
     Done(usize, usize),
     Cut(usize, u8, usize, usize),

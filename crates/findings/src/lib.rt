@@ -1,4 +1,6 @@
 // What is wrong with the order of a part, by its two logs: for each finding the number of an entry of the order log and a kind.
+#![tactic(auto)]
+
 mod walk;
 
 ghost use Rattle.definitions.specs.Findings.{finding};
@@ -11,14 +13,14 @@ use checks::{Checked, check_and_index};
 use logs::{Logs, check_logs, logs_long};
 
 // Which log is malformed.
-#[derive(Drop)]
+#[derive(Clone, Copy)]
 pub enum Log {
     Order,
     Kept,
 }
 
 // What is answered: how many findings there are, or a refusal.
-#[derive(Drop)]
+#[derive(Clone, Copy)]
 pub enum Found {
     Findings(usize),
     BadTable(usize),

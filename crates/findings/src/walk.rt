@@ -16,7 +16,7 @@ use order::{Front, IgnoredIeReason, Placed, entry_len, front_at};
 use rows::index::{Place, place_of};
 
 // Where the walk is: the positions in the two logs, the number of the entry there, and the highest place so far.
-#[derive(Drop)]
+#[derive(Clone, Copy)]
 pub struct Walk {
     pub order: usize,
     pub kept: usize,
@@ -25,14 +25,14 @@ pub struct Walk {
 }
 
 // The kept element at a position: its first octet, and the position behind it; or none is left.
-#[derive(Drop)]
+#[derive(Clone, Copy)]
 pub enum Next {
     Element(u8, usize),
     Gone,
 }
 
 // An entry judged: its kind, 0 where nothing is wrong; the highest place and the position in the kept log behind it.
-#[derive(Drop)]
+#[derive(Clone, Copy)]
 pub struct Judged {
     pub kind: u32,
     pub highest: usize,
@@ -40,7 +40,7 @@ pub struct Judged {
 }
 
 // The same, with where the walk is behind the entry.
-#[derive(Drop)]
+#[derive(Clone, Copy)]
 pub struct Step {
     pub kind: u32,
     pub walk: Walk,

@@ -1,4 +1,6 @@
 // What nas-why prints of an element, into a lent buffer: one line.
+#![tactic(auto)]
+
 ghost use Rattle.std.specs.Prelude.{◌≡◌, ◌++◌, ◌≤◌, length};
 ghost use Rattle.definitions.specs.Basic.{over};
 ghost use Rattle.definitions.specs.Elements.{malformed};

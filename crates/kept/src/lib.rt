@@ -1,5 +1,7 @@
 // The kept log: each element that no row took as its octet count in unsigned LEB128, then its octets. A log is a lent buffer
 // and how many of its octets are used.
+#![tactic(auto)]
+
 ghost use Rattle.std.specs.Prelude.{◌≡◌, ◌∷◌, true, ◌+◌, ◌*◌, ◌%◌, ◌≤◌, ◌<◌, length, drop};
 ghost use Rattle.definitions.specs.Basic.{over, too_long};
 ghost use Rattle.definitions.specs.Logs.{leb128, kept_entry, count_at, allowed, kept_list, kept_push, kept_count, kept_get, kept_clear};
@@ -13,7 +15,7 @@ use octets::{MOST_OCTETS, part};
 pub const MOST_LOG: usize = 131_070;
 
 // What pushing answers: the octets then used, or a refusal.
-#[derive(Drop)]
+#[derive(Clone, Copy)]
 pub enum Pushed {
     Used(usize),
     TooLong,
@@ -22,7 +24,7 @@ pub enum Pushed {
 }
 
 // How many elements a log holds.
-#[derive(Drop)]
+#[derive(Clone, Copy)]
 pub enum Counted {
     Elements(usize),
     TooLong,
@@ -30,7 +32,7 @@ pub enum Counted {
 }
 
 // Where an element stands in a log, IEI first: its start and its length; or none, past the last.
-#[derive(Drop)]
+#[derive(Clone, Copy)]
 pub enum Got {
     Element(usize, usize),
     PastLast,
@@ -39,14 +41,14 @@ pub enum Got {
 }
 
 // A count at the front: its value, and how many octets it takes.
-#[derive(Drop)]
+#[derive(Clone, Copy)]
 pub enum Count {
     Is(usize, usize),
     Not,
 }
 
 // Where a walk over a log is: its position, the elements passed, and start and length of the wanted one, 0 while not met.
-#[derive(Drop)]
+#[derive(Clone, Copy)]
 pub struct Walk {
     pub at: usize,
     pub count: usize,
@@ -54,13 +56,13 @@ pub struct Walk {
     pub len: usize,
 }
 
-#[derive(Drop)]
+#[derive(Clone, Copy)]
 pub enum Step {
     To(Walk),
     Malformed,
 }
 
-#[derive(Drop)]
+#[derive(Clone, Copy)]
 pub enum Walked {
     Log(usize, usize, usize),
     Malformed,

@@ -1,4 +1,6 @@
 // The length of an element from the octets from its first octet on (TS 24.007, 11.2.4).
+#![tactic(auto)]
+
 ghost use Rattle.std.specs.Prelude.{◌≡◌, ◌-◌, length};
 ghost use Rattle.definitions.specs.Rows.{tlv, tlv-e};
 ghost use Rattle.definitions.specs.Length.{whole, unknown_length, lacking, missing};
@@ -7,21 +9,21 @@ ghost use Rattle.length.specs.Answers.{length_of, unknown_of, kind_of, long_or_s
 use octets::{Cursor, Octet, Pair};
 
 // The whole length, or cut short: the octets end before the element does.
-#[derive(Drop)]
+#[derive(Clone, Copy)]
 pub enum Length {
     Octets(usize),
     CutShort,
 }
 
 // The same of an unknown element: cut short, it says how many octets are missing.
-#[derive(Drop)]
+#[derive(Clone, Copy)]
 pub enum UnknownLength {
     Octets(usize),
     CutShort(usize),
 }
 
 // What its first octet says of an unknown element.
-#[derive(Drop)]
+#[derive(Clone, Copy)]
 pub enum UnknownKind {
     OneOctet,
     Required,

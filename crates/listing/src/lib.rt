@@ -1,4 +1,6 @@
 // What nas-list prints of a part, into a lent buffer: by table number, with the option on or off.
+#![tactic(auto)]
+
 ghost use Rattle.std.specs.Prelude.{◌≡◌, ◌+◌, ◌≤◌, length};
 ghost use Rattle.std.proofs.Math.Option.{none};
 ghost use Rattle.definitions.specs.Elements.{elements_of};
@@ -16,14 +18,14 @@ use wording::{MOST_LISTED, say, say_cut, say_end, say_line};
 pub const MOST_TEXT: usize = 102_429;
 
 // The octets of the text: written, or needed where there is no room for them.
-#[derive(Drop)]
+#[derive(Clone, Copy)]
 pub enum Listed {
     Written(usize),
     NoRoom(usize),
 }
 
 // Whether a part is read whole, or is cut short: where, the first octet there, the octets to the end and those missing.
-#[derive(Drop)]
+#[derive(Clone, Copy)]
 pub enum Whole {
     Elements,
     Cut(usize, u8, usize, usize),

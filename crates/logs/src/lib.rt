@@ -1,4 +1,6 @@
 // Whether the logs are too long, and whether a log is well formed: each by itself, as writing asks, and both at once, as the findings do.
+#![tactic(auto)]
+
 ghost use Rattle.std.specs.Prelude.{◌≡◌, ◌||◌, ◌≤◌};
 ghost use Rattle.definitions.specs.Basic.{is_none, too_long, most_log};
 ghost use Rattle.definitions.specs.Logs.{order_list, kept_list};
@@ -10,7 +12,7 @@ use kept::{Count, MOST_LOG, entry_at, too_long};
 use order::{Front, entry_len, front_at};
 
 // Two logs that are well formed, with the octets of all kept elements; or the first that is not.
-#[derive(Drop)]
+#[derive(Clone, Copy)]
 pub enum Logs {
     Formed(usize),
     Order,
@@ -18,7 +20,7 @@ pub enum Logs {
 }
 
 // The octets of all elements of a kept log.
-#[derive(Drop)]
+#[derive(Clone, Copy)]
 pub enum Kept {
     Octets(usize),
     Malformed,
@@ -53,7 +55,7 @@ pub fn order_malformed(order: &[u8]) -> bool
 }
 
 // Where a walk over a kept log is, and the octets of the elements before it.
-#[derive(Drop)]
+#[derive(Clone, Copy)]
 pub struct Along {
     pub at: usize,
     pub octets: usize,

@@ -13,7 +13,7 @@ use octets::MOST_OCTETS;
 use rows::columns::mandatory_rows;
 
 // What reading answers: the octets read, or a refusal; the row that is refused counts from 0.
-#[derive(Drop)]
+#[derive(Clone, Copy)]
 pub enum Mandated {
     Done(usize),
     NoRoom,
@@ -27,7 +27,7 @@ pub enum Mandated {
 }
 
 // The answer, with the notes of lenient reading up to there.
-#[derive(Drop)]
+#[derive(Clone, Copy)]
 pub struct MandatoryRead {
     pub answer: Mandated,
     pub notes: Notes,

@@ -5,14 +5,14 @@ ghost use Rattle.mandatory.specs.Notes.{no_notes, with_note, with_fault};
 use mandatory_ie::Fault;
 
 // A row and its fault's number, 8 or 9.
-#[derive(Drop)]
+#[derive(Clone, Copy)]
 pub struct Note {
     pub row: u32,
     pub number: u32,
 }
 
 // The first so many are notes, in the order of the rows; the others are zeros.
-#[derive(Drop)]
+#[derive(Clone, Copy)]
 pub struct Notes {
     pub count: usize,
     pub notes: [Note; 32],

@@ -1,4 +1,6 @@
 // One mandatory row: what it finds at the front of the octets left.
+#![tactic(auto)]
+
 ghost use Rattle.std.specs.Prelude.{◌≡◌, [], ◌∷◌};
 ghost use Rattle.std.proofs.Math.Option.{none, some};
 ghost use Rattle.definitions.specs.Basic.{pick};
@@ -13,7 +15,7 @@ use rows::columns::{
 };
 
 // What is wrong with a complete value: nothing, under the least length, or not receivable.
-#[derive(Drop)]
+#[derive(Clone, Copy)]
 pub enum Fault {
     Nothing,
     TooShort,
@@ -22,7 +24,7 @@ pub enum Fault {
 
 // No octet; one begun and cut; or a value: where it starts, counted from here, its length, how many octets the row consumes, and
 // what is wrong with it.
-#[derive(Drop)]
+#[derive(Clone, Copy)]
 pub enum Found {
     Missing,
     Truncated,

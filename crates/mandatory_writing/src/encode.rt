@@ -16,7 +16,7 @@ use values::check::too_long;
 use values::row::{any_bad, mandatory_row_at, value_octets};
 
 // What writing answers: the octets written, or a refusal; the row that does not fit counts from 0.
-#[derive(Drop)]
+#[derive(Clone, Copy)]
 pub enum MandatoryWrote {
     Done(usize),
     NoRoom,
@@ -29,7 +29,7 @@ pub enum MandatoryWrote {
 }
 
 // The lowest row whose value does not fit, if there is one.
-#[derive(Drop)]
+#[derive(Clone, Copy)]
 pub enum Misfit {
     Nowhere,
     At(usize),

@@ -5,7 +5,7 @@ ghost use Rattle.definitions.specs.Rows.{rows_of, first_bad};
 ghost use Rattle.definitions.specs.Writing.{writing};
 ghost use Rattle.kept.specs.Kept.{used_of};
 ghost use Rattle.definitions.specs.Logs.{kept_list};
-ghost use Rattle.logs.specs.Checks.{kept_octets};
+ghost use Rattle.logs.specs.Checks.{kept_octets as octets_kept};
 ghost use Rattle.logs.specs.declared.Kept.{Kept};
 ghost use Rattle.measured_writing.specs.Added.{IndexIs, filled_of};
 ghost use Rattle.measured_writing.specs.Sizes.{LoggedBy};
@@ -19,7 +19,7 @@ use values::check::too_long;
 use walking::write_walk;
 
 // What is malformed.
-#[derive(Drop)]
+#[derive(Clone, Copy)]
 pub enum Which {
     Order,
     Kept,
@@ -27,7 +27,7 @@ pub enum Which {
 }
 
 // What writing answers: the octets written, or a refusal.
-#[derive(Drop)]
+#[derive(Clone, Copy)]
 pub enum Encoded {
     Done(usize),
     NoRows,
@@ -53,7 +53,7 @@ fn encode_formed<'a>(
     kept_octets: usize,
     output: &mut [u8],
 ) -> Encoded
-    requires { Limited table.now index.now rows.now received.now set.now kept.now order.now × LoggedBy (filled_of table.now rows.now received.now set.now) order.now t × (Kept.Octets kept_octets ≡ kept_octets (kept_list kept.now)) }
+    requires { Limited table.now index.now rows.now received.now set.now kept.now order.now × LoggedBy (filled_of table.now rows.now received.now set.now) order.now t × (Kept.Octets kept_octets ≡ octets_kept (kept_list kept.now)) }
     ensures { Encodes (writing table.now rows.now received.now (used_up set.now) (used_up order.now) (used_up kept.now) output.old) result output.new }
 {
     if t.apart {

@@ -18,14 +18,14 @@ use seen::{Seen, seen_has, seen_with};
 use values::row::{does_fit, is_good, row_at, value_octets};
 
 // The octets of the added elements, and their places.
-#[derive(Drop)]
+#[derive(Clone, Copy)]
 pub struct Tally {
     pub octets: usize,
     pub seen: Seen,
 }
 
 // The octets of the elements under logged IEIs, their places, and whether a row disagrees with the earliest IEI of its place.
-#[derive(Drop)]
+#[derive(Clone, Copy)]
 pub struct Logged {
     pub octets: usize,
     pub seen: Seen,
@@ -33,14 +33,14 @@ pub struct Logged {
 }
 
 // A walk over the order log: what it found, or that the log is malformed.
-#[derive(Drop)]
+#[derive(Clone, Copy)]
 pub enum Walked {
     Log(Logged),
     Malformed,
 }
 
 // A place looked at: its row is malformed or disagrees with the order log, its value does not fit, it is absent, or its element takes so many octets.
-#[derive(Drop)]
+#[derive(Clone, Copy)]
 pub enum Looked {
     Bad,
     Unfit,
@@ -49,7 +49,7 @@ pub enum Looked {
 }
 
 // What all places say: a row is malformed or disagrees, a place is the lowest whose value does not fit, or the added elements are these.
-#[derive(Drop)]
+#[derive(Clone, Copy)]
 pub enum Surveyed {
     Malformed,
     Unfit(usize),

@@ -1,4 +1,6 @@
 // How much reading a part needs of the lent logs, before anything is written; and whether memory holds what any part of a length needs.
+#![tactic(auto)]
+
 ghost use Rattle.std.specs.Prelude.{◌≡◌, ◌&&◌, ◌*◌, length, leb};
 ghost use Rattle.definitions.specs.Basic.{most_octets};
 ghost use Rattle.definitions.specs.Rows.{rows_of};
@@ -13,7 +15,7 @@ use octets::MOST_OCTETS;
 use rows::columns::places;
 
 // What a part needs, or the unknown element that is cut short: its start, first octet, octets to the end and octets missing.
-#[derive(Drop)]
+#[derive(Clone, Copy)]
 pub enum Measured {
     Needs(usize, usize),
     Cut(usize, u8, usize, usize),
@@ -28,8 +30,8 @@ pub fn measure(
     tlve_start: u8,
     option: bool,
 ) -> Measured
-    ensures value { result ≡ measured (parted (rows_by table.now index.now) tlve_start option part.now) }
-    ensures value_2 { Indexed table.now index.now → result ≡ measured (parted (rows_of table.now) tlve_start option part.now) }
+    ensures by_index { result ≡ measured (parted (rows_by table.now index.now) tlve_start option part.now) }
+    ensures own_index { Indexed table.now index.now → result ≡ measured (parted (rows_of table.now) tlve_start option part.now) }
 {
     let start = start_state();
     match steps(

@@ -1,6 +1,8 @@
 // The C interface: document 01's calls on numbers and slices. Each returns document 01's number and puts into five lent places
 // how many values there are, then the values in document 01's order; the places behind them stay as they were. A slice is
 // handed over as a pointer and a length. tlve_start is the start number of the long form.
+#![tactic(auto)]
+
 ghost use Rattle.std.specs.Prelude.{◌≡◌, not, eqb};
 ghost use Rattle.definitions.specs.Block.{reading_block, reading_block_by};
 ghost use Rattle.definitions.specs.Checking.{checking, checking_by};

@@ -8,7 +8,7 @@ use mathlib.Core.Bool.{Bool}
 use lib.ListN.{length, take, drop, replicate, length-append}
 use Rattle.definitions.specs.Basic.{over}
 use Rattle.definitions.specs.Rows.{Row}
-use Rattle.definitions.specs.Elements.{Element, Parted, elements, elements_of, parted}
+use Rattle.definitions.specs.Elements.{Element, Parted, elements_of, parted}
 use Rattle.definitions.specs.Logs.{kept_of, entries_of}
 use Rattle.plain_reading.proofs.Copied.{front-is}
 use Rattle.filling.specs.Fills.{Written}

@@ -1,5 +1,7 @@
 // Reading an optional part by a table and any index, with an entry in the order log for each element: what reading does with a part of
 // which the table does not say all.
+#![tactic(auto)]
+
 mod short;
 
 ghost use Rattle.std.specs.Prelude.{◌≡◌};
@@ -26,8 +28,8 @@ pub fn decode_noted(
     kept: &mut [u8],
     order: &mut [u8],
 ) -> Decoded
-    ensures reads { Reads (noted table.now index.now tlve_start option octets.now (lent_of rows.old kept.old order.old)) result rows.new kept.new order.new }
-    ensures reads_2 { Indexed table.now index.now → first_bad (rows_of table.now) ≡ none → Unplain (rows_of table.now) tlve_start option octets.now rows.old → Reads (reading table.now tlve_start option octets.now (lent_of rows.old kept.old order.old)) result rows.new kept.new order.new }
+    ensures by_index { Reads (noted table.now index.now tlve_start option octets.now (lent_of rows.old kept.old order.old)) result rows.new kept.new order.new }
+    ensures own_index { Indexed table.now index.now → first_bad (rows_of table.now) ≡ none → Unplain (rows_of table.now) tlve_start option octets.now rows.old → Reads (reading table.now tlve_start option octets.now (lent_of rows.old kept.old order.old)) result rows.new kept.new order.new }
 {
     if octets.len() > MOST_OCTETS {
         return Decoded::TooLong;

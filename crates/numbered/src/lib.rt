@@ -1,5 +1,7 @@
 // The table that a number names and its index, put into arrays of the caller's: one function in the place of seven, for calls to which
 // the clearing of the arrays does not matter.
+#![tactic(auto)]
+
 ghost use Rattle.std.specs.Prelude.{◌≡◌, ◌≤◌, length};
 ghost use Rattle.definitions.specs.Basic.{over};
 ghost use Rattle.numbered.specs.Loads.{Loads};
@@ -15,7 +17,7 @@ use real::{
 pub const TLVE_START: u8 = 0x70;
 
 // How many numbers the table has, in the front of the array.
-#[derive(Drop)]
+#[derive(Clone, Copy)]
 pub enum Loaded {
     Table(usize),
     NoTable,

@@ -1,4 +1,6 @@
 // Reading octets from a lent slice, with a cursor by value. Past the end each answer is Short, and nothing is read.
+#![tactic(auto)]
+
 ghost use Rattle.std.specs.Prelude.{◌≡◌, ◌+◌, ◌*◌, ◌≤◌, length, take, drop};
 ghost use Rattle.definitions.specs.Octets.{remaining, run, number_at};
 ghost use Rattle.octets.specs.Answers.{run_of, moved_of, octet_of, pair_of, four_of, octets_of};
@@ -8,39 +10,39 @@ ghost use Rattle.octets.specs.Places.{StandsAt};
 pub const MOST_OCTETS: usize = 65_535;
 
 // Where the next octet is read.
-#[derive(Drop)]
+#[derive(Clone, Copy)]
 pub struct Cursor {
     pub at: usize,
 }
 
 // A run of octets: its start, its length, and the cursor behind it.
-#[derive(Drop)]
+#[derive(Clone, Copy)]
 pub enum Run {
     Octets(usize, usize, Cursor),
     Short,
 }
 
 // The cursor behind octets that are passed over.
-#[derive(Drop)]
+#[derive(Clone, Copy)]
 pub enum Moved {
     To(Cursor),
     Short,
 }
 
 // A number of one, two or four octets, high octet first, and the cursor behind it.
-#[derive(Drop)]
+#[derive(Clone, Copy)]
 pub enum Octet {
     Is(u8, Cursor),
     Short,
 }
 
-#[derive(Drop)]
+#[derive(Clone, Copy)]
 pub enum Pair {
     Is(u16, Cursor),
     Short,
 }
 
-#[derive(Drop)]
+#[derive(Clone, Copy)]
 pub enum Four {
     Is(u32, Cursor),
     Short,

@@ -2,6 +2,8 @@
 // copied out where there is room. The pass gives up where anything is amiss, where the order log names a place that is not above all that it named
 // before and the rows do not tell that places fall, or where the kept log is too long or the array too short: then nothing is written, and the message has
 // to be measured first.
+#![tactic(auto)]
+
 ghost use Rattle.std.specs.Prelude.{◌≤◌, ◌<◌, length, drop};
 ghost use Rattle.definitions.specs.Rows.{rows_of};
 ghost use Rattle.definitions.specs.Logs.{kept_list};
@@ -24,14 +26,14 @@ use unnamed::{names_of, put_unnamed};
 const MOST_SHORT: usize = 512;
 
 // Where a pass is: the position in the array, the position in the kept log, and the place below which every place was looked at.
-#[derive(Drop)]
+#[derive(Clone, Copy)]
 pub struct Pen {
     pub at: usize,
     pub kept: usize,
     pub place: usize,
 }
 
-#[derive(Drop)]
+#[derive(Clone, Copy)]
 pub enum Went {
     To(Pen),
     Not,

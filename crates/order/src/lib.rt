@@ -1,6 +1,8 @@
 // The order log: how the elements came, where that is another order than the table's. An entry is 00 and the IEI of an
 // accepted element, or one octet: 01 unknown, 02 malformed, 03 repeated, 04 out of sequence. A log is a lent buffer and how
 // many of its octets are used.
+#![tactic(auto)]
+
 ghost use Rattle.std.specs.Prelude.{◌≡◌, ◌≤◌, ◌<◌, length, get_or, drop, [], ◌∷◌};
 ghost use Rattle.definitions.specs.Logs.{order_entry, order_list, order_push, order_get};
 ghost use Rattle.definitions.proofs.Orders.{order_front, aside_by};
@@ -10,7 +12,7 @@ ghost use Rattle.order.specs.Order.{placed_as, front_as, Stepped, told_by, tell,
 use kept::{MOST_LOG, Pushed};
 
 // Why an element that has a place was set aside.
-#[derive(Drop)]
+#[derive(Clone, Copy)]
 pub enum IgnoredIeReason {
     Malformed,
     Repeated,
@@ -18,7 +20,7 @@ pub enum IgnoredIeReason {
 }
 
 // How an element came: accepted under an IEI, unknown, or set aside.
-#[derive(Drop)]
+#[derive(Clone, Copy)]
 pub enum Placed {
     Known(u8),
     Unknown,
@@ -26,7 +28,7 @@ pub enum Placed {
 }
 
 // The entry at a number.
-#[derive(Drop)]
+#[derive(Clone, Copy)]
 pub enum Entry {
     Is(Placed),
     PastLast,
@@ -35,33 +37,33 @@ pub enum Entry {
 }
 
 // The entry at the front of a log.
-#[derive(Drop)]
+#[derive(Clone, Copy)]
 pub enum Front {
     Is(Placed),
     Not,
 }
 
 // The wanted entry of a walk.
-#[derive(Drop)]
+#[derive(Clone, Copy)]
 pub enum Wanted {
     Met(Placed),
     NotYet,
 }
 
-#[derive(Drop)]
+#[derive(Clone, Copy)]
 pub struct OrderWalk {
     pub at: usize,
     pub count: usize,
     pub wanted: Wanted,
 }
 
-#[derive(Drop)]
+#[derive(Clone, Copy)]
 pub enum OrderStep {
     To(OrderWalk),
     Malformed,
 }
 
-#[derive(Drop)]
+#[derive(Clone, Copy)]
 pub enum OrderWalked {
     Log(Wanted),
     Malformed,

@@ -1,5 +1,7 @@
 // The answers of the calls on a whole part: reading, checking, writing, findings and why. Each is a number and its values in five lent
 // places, as crates/answers puts them.
+#![tactic(auto)]
+
 ghost use Rattle.std.specs.Prelude.{◌≡◌, [], ◌∷◌};
 ghost use Rattle.checking.specs.Checks.{part_check_as};
 ghost use Rattle.findings.specs.Findings.{log_as, found_as};

@@ -1,5 +1,7 @@
 // The elements of places, put into an array one behind the other and copied out where there is room: each row is judged as its element is put.
 // Where anything is amiss nothing goes to the output, and the caller measures the message first.
+#![tactic(auto)]
+
 ghost use Rattle.std.specs.Prelude.{◌≡◌, ◌&&◌, ◌-◌, ◌≤◌, length, leb};
 ghost use Rattle.rows.specs.Numbers.{numbers_at};
 ghost use Rattle.placing.specs.Pieces.{lent_of, piece_by, ranged, PutBy, put_all, CopiedBy};
@@ -12,7 +14,7 @@ use rows::columns::{form_of, numbers_at};
 use values::row::{is_good, row_at, value_octets};
 
 // The position behind what was written; or not written.
-#[derive(Drop)]
+#[derive(Clone, Copy)]
 pub enum Passed {
     To(usize),
     Not,

@@ -13,7 +13,7 @@ use Rattle.definitions.specs.Basic.{pick}
 use Rattle.definitions.specs.Rows.{Row, ieis, first_iei}
 use Rattle.rows.specs.Numbers.{numbers_at}
 use Rattle.by_index.specs.ByIndex.{ieis_from, first_by, row_by, rows_by}
-use Rattle.by_index.proofs.Rows.{row_at}
+use Rattle.by_index.proofs.Rows.{row_at_lem}
 
 module _ (table index : List ℕ) (k : ℕ) (low : k < 128) where
   abbrev first : ℕ
@@ -22,7 +22,7 @@ module _ (table index : List ℕ) (k : ℕ) (low : k < 128) where
   first-is : first_iei (rows_by table index) k ≡ first_by index k first
   unfolding first_iei ieis row_by
   first-is =
-      ap (λ (r : Row). get_or (ieis r) 0 0) (row_at table index k low)
+      ap (λ (r : Row). get_or (ieis r) 0 0) (row_at_lem table index k low)
       ∙ ap (λ (l : List ℕ). get_or l 0 0) (take-length (first_by index k first ∷ ieis_from index k 0 256))
 
   module _ (iei : ℕ) (octet : iei < 256) (k-is : k ≡ get_or index iei 0) where

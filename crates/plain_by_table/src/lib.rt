@@ -1,6 +1,8 @@
 // By a table and any index, a part of which they say all (by number into two logs: crates/plain_reading): every element is accepted, in
 // table order, under its row's first IEI. One pass finds its rows, before anything is written; its logs stay empty, whatever the start
 // number and the option.
+#![tactic(auto)]
+
 ghost use Rattle.std.specs.Prelude.{◌≡◌, Bool, true, [], ◌∷◌, ℕ, ◌+◌, ◌*◌, ◌≤◌, length};
 ghost use Rattle.std.proofs.Math.Option.{none, some};
 ghost use Rattle.definitions.specs.Basic.{pick, over_at};

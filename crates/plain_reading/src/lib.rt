@@ -1,6 +1,8 @@
 // Reading by number a part of which the table says all: every element is accepted, in table order, under its row's first IEI, so that
 // both logs stay empty, whatever the option. The table is not laid out: what it says of each IEI is asked. Rows are copied and cleared here, and logs
 // cleared, for other crates too.
+#![tactic(auto)]
+
 ghost use Rattle.std.specs.Prelude.{◌≡◌, [], ◌∷◌, Bool, ℕ, ◌+◌, ◌*◌, ◌≤◌, min, length, take, replicate};
 ghost use Rattle.std.proofs.Math.Option.{none, some};
 ghost use Rattle.definitions.specs.Basic.{pick, over, over_at};

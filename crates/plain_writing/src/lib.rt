@@ -1,4 +1,6 @@
 // A message whose logs are both empty, as most are, written in one pass: by a table, and by number without the table laid out.
+#![tactic(auto)]
+
 ghost use Rattle.std.specs.Prelude.{◌≤◌, length};
 ghost use Rattle.definitions.specs.Rows.{rows_of};
 ghost use Rattle.rows.specs.Numbers.{numbers_at};

@@ -1,5 +1,7 @@
 // One element into the rest of the output: its IEI, its length field, its value. Each function puts the element where its value fits its
 // form, the octet of a half octet can hold it beside its IEI, and there is room; it says how many octets the element takes, or 0.
+#![tactic(auto)]
+
 ghost use Rattle.std.specs.Prelude.{◌≡◌, ◌||◌, eqb, leb};
 ghost use Rattle.definitions.specs.Rows.{half, fixed, tlv, tlv-e};
 ghost use Rattle.definitions.specs.Writing.{encoded};

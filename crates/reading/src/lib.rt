@@ -1,5 +1,7 @@
 // Reading an optional part by a lent table, into two logs. One of which the table says all is read by the plain pass, which writes nothing
 // where it is not one, or too long, or without room for its rows.
+#![tactic(auto)]
+
 ghost use Rattle.std.specs.Prelude.{◌≡◌};
 ghost use Rattle.std.proofs.Math.Option.{none};
 ghost use Rattle.definitions.specs.Rows.{rows_of, first_bad};

@@ -1,4 +1,6 @@
 // Reading an optional part by table number.
+#![tactic(auto)]
+
 ghost use Rattle.std.specs.Prelude.{◌≡◌, false};
 ghost use Rattle.definitions.specs.Reading.{reading, reading_by};
 ghost use Rattle.real.specs.Real.{real_of};

@@ -1,5 +1,7 @@
 // Table P, and the six real tables of TS 24.501, edition 16.8.0, as constants: their rows after the message type, and the index
 // of each table's IEIs. The words before a row name its element; docs/TABLES.md says where each number is from.
+#![tactic(auto)]
+
 ghost use Rattle.std.specs.Prelude.{◌≡◌};
 ghost use Rattle.definitions.specs.Rows.{rows_of, first_bad, place_of, index};
 ghost use Rattle.definitions.specs.Mandatory.{mandatory_rows_of, first_bad_mandatory};

@@ -4,18 +4,16 @@ use Prim.Native.Nat.{ℕ, zero, suc, ◌*◌, ◌/◌, ◌≤◌, ◌<◌}
 use native.Mathlib.Omega.{arith}
 use mathlib.Core.Path.{◌≡◌, refl, ap, sym, ◌∙◌}
 use mathlib.Core.List.{List, [], ◌∷◌}
-use mathlib.Core.Bool.{Bool, true, false, ◌&&◌, not, and-true, false≢true}
+use mathlib.Core.Bool.{Bool, true, false}
 use mathlib.Core.Option.{none}
-use borrow.Author.Tests.{lt-ltb, le-ltb, ltb-true, ltb-false, le-leb, lt-leb}
-use lib.ListN.{length, get_or, drop, length-take}
+use borrow.Author.Tests.{lt-ltb, le-ltb, ltb-true, ltb-false}
+use lib.ListN.{length, get_or, length-take}
 use lib.Seq.{get_or-drop, get_or-take}
-use lib.Dec.{ltb, eqb, lit<}
-use Rattle.definitions.specs.Basic.{pick}
-use Rattle.definitions.specs.Rows.{Row, row_of, rows_of, row_at, ieis, first_iei, good_iei, first_bad, no_row}
+use lib.Dec.{ltb, lit<}
+use Rattle.definitions.specs.Rows.{Row, row_of, rows_of, row_at, ieis, first_iei, first_bad, no_row}
 use Rattle.definitions.proofs.RowLaws.{Passes, passes as rows_pass}
-use Rattle.definitions.proofs.TableLaws.{past, row_at_lem, iei-at, iei-count, count-is, row_count}
-use Rattle.rows.specs.Numbers.{numbers_of, no_numbers, numbers_at, Whole}
-use Rattle.rows.specs.declared.columns.Numbers.{Numbers}
+use Rattle.definitions.proofs.TableLaws.{past, row_at_lem, iei-at, count-is, row_count}
+use Rattle.rows.specs.Numbers.{numbers_at, Whole}
 
 row-past : (t : List Row) (k : ℕ) → length t ≤ k → row_at t k ≡ no_row
 unfolding row_at

@@ -8,7 +8,7 @@ ghost use Rattle.rows.specs.Forms.{form_as, mandatory_form_as};
 ghost use Rattle.rows.specs.Numbers.{numbers_at};
 
 // The form of an optional element; fixed has so many value octets after the IEI.
-#[derive(Drop)]
+#[derive(Clone, Copy)]
 pub enum Form {
     Half,
     Fixed(usize),
@@ -18,7 +18,7 @@ pub enum Form {
 
 // The numbers of a row, with its first IEI alone: how many IEIs, that one, the code and the size of its form, the least and the
 // greatest whole length, the set of kinds.
-#[derive(Drop)]
+#[derive(Clone, Copy)]
 pub struct Numbers {
     pub count: u32,
     pub first: u32,
@@ -30,7 +30,7 @@ pub struct Numbers {
 }
 
 // The form of a mandatory element.
-#[derive(Drop)]
+#[derive(Clone, Copy)]
 pub enum MandatoryForm {
     LowHalf,
     HighHalf,

@@ -6,7 +6,7 @@ ghost use Rattle.rows.specs.Answers.{place_as};
 // The entry of an IEI that has no place.
 pub const NO_PLACE: u8 = 255;
 
-#[derive(Drop)]
+#[derive(Clone, Copy)]
 pub enum Place {
     At(usize),
     Nowhere,

@@ -1,12 +1,14 @@
 // What a numbered table says of an IEI that is a row's first, without the table laid out in memory: a `match` of numbers is a choice in
 // the program itself, while a constant array is stored on the stack at each call.
+#![tactic(auto)]
+
 pub mod shape;
 
 ghost use Rattle.std.specs.Prelude.{◌≡◌, ◌/◌, ◌%◌, length};
 ghost use Rattle.said.specs.Said.{rows_by, said_of};
 
 // The place of the row, and of its numbers those by which reading judges an element; place 255 and zeros of another IEI.
-#[derive(Drop)]
+#[derive(Clone, Copy)]
 pub struct Said {
     pub place: usize,
     pub code: u32,

@@ -4,7 +4,7 @@ ghost use Rattle.std.specs.Prelude.{◌≡◌, ◌/◌, ◌%◌};
 ghost use Rattle.said.specs.Shapes.{shape_of};
 
 // Of the row of a place what writing asks for: its first IEI, and the code and the size of its form; zeros of a place that the table has not.
-#[derive(Drop)]
+#[derive(Clone, Copy)]
 pub struct Shape {
     pub first: u32,
     pub code: u32,

@@ -1,10 +1,12 @@
 // The set of places met, a bit each in two numbers of 64 bits.
+#![tactic(auto)]
+
 ghost use Rattle.std.specs.Prelude.{◌≡◌, ◌<◌, eqb};
 ghost use Rattle.definitions.specs.Basic.{bit};
 ghost use Rattle.definitions.specs.Elements.{including};
 ghost use Rattle.seen.specs.Seen.{set_of, seen_of, including_place};
 
-#[derive(Drop)]
+#[derive(Clone, Copy)]
 pub struct Seen {
     pub low: u64,
     pub high: u64,

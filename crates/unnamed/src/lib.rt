@@ -1,6 +1,8 @@
 // The places that an order log names, and the elements of those that it does not: what a message has been given since it was received, which
 // is written before the next logged element of a higher place. Where a message was received in the table's order, an element that the log
 // names comes behind all lower ones, and it need not be known beforehand which are named: then the log is not gone over.
+#![tactic(auto)]
+
 ghost use Rattle.std.specs.Prelude.{◌≡◌, ◌-◌};
 ghost use Rattle.placing.specs.Pieces.{lent_of, PutBy};
 ghost use Rattle.seen.specs.Seen.{set_of};

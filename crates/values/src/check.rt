@@ -14,7 +14,7 @@ use octets::{MOST_OCTETS, part};
 use rows::columns::places;
 
 // What the checks say: nothing is wrong, or the first refusal.
-#[derive(Drop)]
+#[derive(Clone, Copy)]
 pub enum PlaceCheck {
     Passes,
     BadTable(usize),

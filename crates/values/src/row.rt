@@ -9,7 +9,7 @@ use octets::part;
 use rows::columns::Form;
 
 // The numbers of a row: source, start and length of its value, and its IEI, which a mandatory row has not.
-#[derive(Drop)]
+#[derive(Clone, Copy)]
 pub struct ValueRow {
     pub source: u32,
     pub start: u32,

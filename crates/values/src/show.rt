@@ -13,7 +13,7 @@ use rows::columns::{Form, form_at};
 
 // What showing answers: nothing for an absent place, the four bits of a half octet and its IEI, or the row that
 // says where the value is; or a refusal.
-#[derive(Drop)]
+#[derive(Clone, Copy)]
 pub enum Shown {
     Absent,
     Half(u8, u32),

@@ -1,4 +1,6 @@
 // What nas-check prints of a part, into a lent buffer: one line, and behind that of an offender its line of the listing.
+#![tactic(auto)]
+
 ghost use Rattle.std.specs.Prelude.{◌≡◌, [], ◌∷◌, false, ◌≤◌, length};
 ghost use Rattle.definitions.specs.Basic.{over, answer};
 ghost use Rattle.definitions.specs.Rows.{rows_of};

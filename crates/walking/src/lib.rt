@@ -1,5 +1,7 @@
 // A message walked by its order log and written as it goes, by the numbers of a table, an index and a set of added places as they are lent. Each
 // piece goes into the rest of the output, where there is room for it: of a message that was measured there is room for all.
+#![tactic(auto)]
+
 ghost use Rattle.std.specs.Prelude.{◌≡◌, [], ◌∷◌, ℕ, ◌-◌, ◌≤◌, ◌<◌, max, length, get_or};
 ghost use Rattle.definitions.specs.Basic.{over};
 ghost use Rattle.placing.specs.Pieces.{lent_of};
@@ -16,7 +18,7 @@ use values::row::{row_at, value_octets};
 
 // Where writing is: the position in the output, the position in the kept log, the place below which every added element is written,
 // and how many octets the last kept element had, as the next is expected to have.
-#[derive(Drop)]
+#[derive(Clone, Copy)]
 pub struct Pen {
     pub at: usize,
     pub kept: usize,

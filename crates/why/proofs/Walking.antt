@@ -13,7 +13,6 @@ use lib.Dec.{eqb, ltb}
 use borrow.Author.Tests.{eqb-true, eqb-false, ltb-true, ltb-false, lt-ltb, le-ltb}
 use Rattle.definitions.specs.Basic.{pick, bit}
 use Rattle.definitions.specs.Rows.{Row, rows_of, row_at, form, iei_of}
-use Rattle.definitions.specs.Length.{whole}
 use Rattle.definitions.specs.Elements.{Verdict, accepted, unknown, malformed, repeated, out_of_sequence, Element as DefElement, iei_at, is_at, known, stranger, Met, Parted, elements, cut_short, before, parted}
 use Rattle.definitions.specs.Why.{Fault as DefFault, first_at, highest_of, fault_in, why, why_by}
 use Rattle.definitions.proofs.Steps.{Stands, strange, placed}

@@ -1,4 +1,6 @@
 // Why an element of an optional part came as it did: its verdict with its ground.
+#![tactic(auto)]
+
 ghost use Rattle.std.specs.Prelude.{◌≡◌, ◌≤◌, length};
 ghost use Rattle.std.proofs.Math.Option.{none};
 ghost use Rattle.definitions.specs.Rows.{rows_of, first_bad};
@@ -20,7 +22,7 @@ use rows::columns::{Numbers, form_of, numbers_at};
 use seen::{Seen, seen_has};
 
 // What is wrong with a malformed element, the first that is true.
-#[derive(Drop)]
+#[derive(Clone, Copy)]
 pub enum Fault {
     CutShort,
     UnderLeast,
@@ -31,7 +33,7 @@ pub enum Fault {
 // out of sequence the start of the first element of the highest place met before it. Or a refusal: there is no such element; the
 // part is cut short, by start, first octet, octets to the end and octets missing; it is too long; the table fails its check; no
 // table has the number.
-#[derive(Drop)]
+#[derive(Clone, Copy)]
 pub enum Why {
     Accepted,
     Unknown,

@@ -1,5 +1,7 @@
 // Text into a lent buffer from a position on, as far as there is room. Each answer is the position behind the text. Nothing is put
 // from position 2^30 on, nor of a text so long, and the position stays.
+#![tactic(auto)]
+
 mod put;
 
 ghost use Rattle.std.specs.Prelude.{[], ◌++◌};
@@ -17,7 +19,7 @@ pub const MOST_LISTED: usize = 4096;
 const LIMIT: usize = 1_073_741_824;
 
 // How many octets a text has, and whether it tells a refusal.
-#[derive(Drop)]
+#[derive(Clone, Copy)]
 pub struct Told {
     pub len: usize,
     pub refused: bool,

@@ -1,4 +1,6 @@
 // Writing an optional part by a lent table: in one pass, where that may do and does, and else measured first.
+#![tactic(auto)]
+
 ghost use Rattle.definitions.specs.Writing.{writing};
 ghost use Rattle.kept.specs.Kept.{used_of};
 ghost use Rattle.measured_writing.specs.Encodes.{Encodes};

@@ -1,4 +1,6 @@
 // Writing an optional part by table number: one without logs in one pass, where that does, and else with the table laid out.
+#![tactic(auto)]
+
 ghost use Rattle.std.specs.Prelude.{◌≡◌, List, true, ℕ};
 ghost use Rattle.std.proofs.Math.Option.{none};
 ghost use Rattle.definitions.specs.Rows.{rows_of, first_bad};

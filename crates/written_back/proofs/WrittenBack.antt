@@ -32,10 +32,10 @@ module _ (table : List ℕ) (start : ℕ) (option : Bool) (part rows₀ kept₀ 
   unfolding written_back
   same d set output = rw (← d.answers, d.rows_are, d.kept-is, d.order_is)
 
-  pub written_back : Reads r (Decoded.Done k o) rows kept order → AreOctets part → (set output : List ℕ) → length part ≤ length output → {e : Encoded} {after : List ℕ}
+  pub written-back : Reads r (Decoded.Done k o) rows kept order → AreOctets part → (set output : List ℕ) → length part ≤ length output → {e : Encoded} {after : List ℕ}
       → Encodes (writing table rows part (used_of set 0) (used_of order o) (used_of kept k) output) e after → Back part output e after
   unfolding gives
-  written_back d small set output room {e = e} w =
+  written-back d small set output room {e = e} w =
       let b : writing table rows part (used_of set 0) (used_of order o) (used_of kept k) output ≡ gives part output =
       same d set output ∙ round_trip table start option part (lent_of rows₀ kept₀ order₀) set output small (ap (λ (x : Answer). x.number) (sym d.answers)) room in
       record {

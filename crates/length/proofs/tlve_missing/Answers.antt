@@ -1,0 +1,12 @@
+-- `tlve_missing` is what an element lacks by a field of two octets: the law over the width, at this width.
+-- The number read is the field's; a field that is not there is cut.
+use mathlib.Core.Path.{sym, ◌∙◌}
+use Rattle.definitions.proofs.Length.{lacking-widths, lacking-value, lacking-field}
+use Rattle.octets.proofs.Laws.{pair_is, pair-short}
+use Rattle.length.proofs.tlve_missing.Goals as goal
+
+pub returns-in-Is : goal.returns-in-Is
+returns-in-Is c = c.missing_to.ensures ∙ sym ((lacking-widths _).1 ∙ lacking-value 2 _ c.args.octets.now (pair_is 1 _ (sym c.in-Is.is ∙ c.get_u16.ensures)))
+
+pub returns-in-Short : goal.returns-in-Short
+returns-in-Short c = c.missing_to-in-Short.ensures ∙ sym ((lacking-widths _).1 ∙ lacking-field 2 c.args.octets.now (pair-short 1 _ (sym c.in-Short.is ∙ c.get_u16.ensures)))

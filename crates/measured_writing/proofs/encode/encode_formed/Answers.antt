@@ -1,0 +1,65 @@
+-- `encode_formed` makes the checks of the rows in their order, measures, and writes.
+-- Each way out cites the law of its check; what was measured is as long as what is written.
+use Prim.Native.Nat.{ℕ}
+use native.Mathlib.Omega.{arith}
+use mathlib.Core.Path.{ap, sym, ◌∙◌}
+use mathlib.Core.List.{List, []}
+use mathlib.Core.Bool.{false}
+use lib.ListN.{length}
+use Rattle.definitions.specs.Basic.{over}
+use Rattle.definitions.specs.Rows.{rows_of}
+use Rattle.logs.proofs.Formed.{kept-few, kept-told}
+use Rattle.seen.specs.Seen.{set_of}
+use Rattle.agreement.specs.Agreed.{Agreeing}
+use Rattle.measured_writing.specs.Added.{filled_of}
+use Rattle.measured_writing.specs.Sizes.{SurveyedBy}
+use Rattle.measured_writing.specs.declared.sizes.Surveyed.{Surveyed}
+use Rattle.measured_writing.proofs.Encoding.{needed, all_left, writable, wrong-rows, apart-rows, bad-rows, no-fit, no_output, done}
+use Rattle.measured_writing.proofs.Walked.{all-written}
+use Rattle.measured_writing.proofs.encode.encode_formed.Goals as goal
+
+pub returns-then-t : goal.returns-then-t
+returns-then-t c = let a = c.args in let m = filled_of a.table.now a.rows.now a.received.now a.set.now in let k = kept-told a.kept.now c.requires.2 in bad-rows a.table.now a.index.now a.rows.now a.received.now a.set.now a.kept.now a.order.now a.output.now c.requires.0 c.requires.1.tells.ps c.requires.1.tells.is k.es k.kept-is (apart-rows m (set_of a.t.seen) c.requires.1.tells.ps (rw c.if-t.true at c.requires.1.agrees))
+
+pub survey-requires : goal.survey-requires
+survey-requires c = (c.requires.0.sized.passes, c.requires.0.sized.received-short, c.requires.0.sized.set-short)
+
+pub overflow_add-need : goal.overflow_add-need
+overflow_add-need c = let k = kept-told c.args.kept.now c.requires.2 in omega (arith, c.requires.1.few, k.octets-are, kept-few c.args.kept.now k.kept-is, c.requires.0.order-short, c.requires.0.kept-short)
+
+pub overflow_add-need-in-Added : goal.overflow_add-need-in-Added
+overflow_add-need-in-Added c =
+    let surveyed : SurveyedBy (filled_of c.args.table.now c.args.rows.now c.args.received.now c.args.set.now) (set_of c.args.t.seen) (Surveyed.Added c.in-Added.a) = rw c.in-Added.is at c.survey.ensures in
+    let k = kept-told c.args.kept.now c.requires.2 in omega (arith, c.requires.1.few, k.octets-are, kept-few c.args.kept.now k.kept-is, c.requires.0.order-short, c.requires.0.kept-short, (surveyed).4)
+
+pub returns-then-output-need : goal.returns-then-output-need
+returns-then-output-need c =
+    let agreed : Agreeing (rows_of c.args.table.now) c.args.rows.now c.requires.1.tells.ps [] (set_of c.args.t.seen) false = rw c.if-t.false at c.requires.1.agrees in
+    let surveyed : SurveyedBy (filled_of c.args.table.now c.args.rows.now c.args.received.now c.args.set.now) (set_of c.args.t.seen) (Surveyed.Added c.in-Added.a) = rw c.in-Added.is at c.survey.ensures in
+    let a = c.args in let m = filled_of a.table.now a.rows.now a.received.now a.set.now in let k = kept-told a.kept.now c.requires.2 in no_output a.table.now a.index.now a.rows.now a.received.now a.set.now a.kept.now a.order.now a.output.now c.requires.0 c.requires.1.tells.ps c.requires.1.tells.is k.es k.kept-is (sym (wrong-rows m (set_of a.t.seen) c.requires.1.tells.ps (agreed)) ∙ (surveyed).0) (surveyed).1 _ (needed m a.order.now a.t.octets (set_of a.t.seen) (set_of c.in-Added.a.seen) c.requires.1.tells (surveyed).2 k.es k.octets-are (surveyed).3) c.if-output-need.true
+
+pub returns-in-Malformed : goal.returns-in-Malformed
+returns-in-Malformed c =
+    let agreed : Agreeing (rows_of c.args.table.now) c.args.rows.now c.requires.1.tells.ps [] (set_of c.args.t.seen) false = rw c.if-t.false at c.requires.1.agrees in
+    let a = c.args in let m = filled_of a.table.now a.rows.now a.received.now a.set.now in let k = kept-told a.kept.now c.requires.2 in bad-rows a.table.now a.index.now a.rows.now a.received.now a.set.now a.kept.now a.order.now a.output.now c.requires.0 c.requires.1.tells.ps c.requires.1.tells.is k.es k.kept-is (sym (wrong-rows m (set_of a.t.seen) c.requires.1.tells.ps (agreed)) ∙ rw c.in-Malformed.is at c.survey.ensures)
+
+pub returns-in-Unfit : goal.returns-in-Unfit
+returns-in-Unfit c =
+    let agreed : Agreeing (rows_of c.args.table.now) c.args.rows.now c.requires.1.tells.ps [] (set_of c.args.t.seen) false = rw c.if-t.false at c.requires.1.agrees in
+    let a = c.args in let m = filled_of a.table.now a.rows.now a.received.now a.set.now in let k = kept-told a.kept.now c.requires.2 in let s = rw c.in-Unfit.is at c.survey.ensures in no-fit a.table.now a.index.now a.rows.now a.received.now a.set.now a.kept.now a.order.now a.output.now c.requires.0 c.requires.1.tells.ps c.requires.1.tells.is k.es k.kept-is (sym (wrong-rows m (set_of a.t.seen) c.requires.1.tells.ps (agreed)) ∙ s.0) s.1
+
+pub returns-else-output-need : goal.returns-else-output-need
+returns-else-output-need c =
+    let surveyed : SurveyedBy (filled_of c.args.table.now c.args.rows.now c.args.received.now c.args.set.now) (set_of c.args.t.seen) (Surveyed.Added c.in-Added.a) = rw c.in-Added.is at c.survey.ensures in
+    let agreed : Agreeing (rows_of c.args.table.now) c.args.rows.now c.requires.1.tells.ps [] (set_of c.args.t.seen) false = rw c.if-t.false at c.requires.1.agrees in
+    let a = c.args in
+    let l = c.requires.0 in
+    let g = c.requires.1.tells in
+    let m = filled_of a.table.now a.rows.now a.received.now a.set.now in
+    let k = kept-told a.kept.now c.requires.2 in
+    let u = surveyed in
+    let x = set_of c.in-Added.a.seen in
+    let n = needed m a.order.now a.t.octets (set_of a.t.seen) x g u.2 k.es k.octets-are u.3 in
+    let f = all_left m a.order.now a.t.octets (set_of a.t.seen) x g u.2 k.es in
+    let y = all-written a.table.now a.rows.now a.received.now a.set.now a.order.now a.kept.now x (writable a.table.now a.rows.now a.received.now a.set.now l.sized.passes u.1) g.ps g.is k.es k.kept-is l.sized.indexed (rw f (omega (arith, n, c.if-output-need.false))) c.write_walk.ensures in
+    done a.table.now a.index.now a.rows.now a.received.now a.set.now a.kept.now a.order.now a.output.now l g.ps g.is k.es k.kept-is (sym (wrong-rows m (set_of a.t.seen) g.ps (agreed)) ∙ u.0) u.1 c.write_walk.result (y.0 ∙ ap length f) (omega (arith, y.0, ap length f, n, c.if-output-need.false)) (y.1 ∙ ap (λ (z : List ℕ). over z a.output.now) f)

@@ -1,0 +1,9 @@
+-- `nas_clear` returns the answer of a clearing, with what that leaves in lent memory.
+-- One call and one conversion: the answer of the call is that of the definition.
+use Rattle.answers.proofs.Laws.{said-by}
+use Rattle.nas.proofs.nas_clear.Goals as goal
+
+pub returns : goal.returns
+returns c =
+    let d = c.clear_place.ensures in
+    record { says = said-by d.answers c.edited_said.ensures; rows_are = d.rows_are; set_is = d.set_is }

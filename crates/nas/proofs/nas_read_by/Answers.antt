@@ -1,0 +1,9 @@
+-- `nas_read_by` returns the answer of a reading, with what that leaves in lent memory.
+-- One call and one conversion: the answer of the call is that of the definition.
+use Rattle.answers.proofs.Laws.{said-by}
+use Rattle.nas.proofs.nas_read_by.Goals as goal
+
+pub returns : goal.returns
+returns c =
+    let d = c.decode_optional_ies_by.ensures in
+    record { says = said-by d.answers c.decoded_said.ensures; rows_are = d.rows_are; kept-is = d.kept-is; order_is = d.order_is }

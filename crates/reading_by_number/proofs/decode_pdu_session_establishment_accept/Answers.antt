@@ -1,0 +1,14 @@
+-- `decode_pdu_session_establishment_accept` lends the table and its index to `decode_noted`.
+-- That the table passes is the rule of the constants; that it does not say all of the part is known.
+use native.Mathlib.Omega.{arith}
+use Rattle.real.proofs.RealLaws.{real}
+use Rattle.rows.proofs.Indexed.{indexed}
+use Rattle.reading_by_number.proofs.ByNumber.{unplain}
+use Rattle.reading_by_number.proofs.decode_pdu_session_establishment_accept.Goals as goal
+
+pub returns : goal.returns
+returns c =
+    let a = c.args in
+    rw c.pdu_session_establishment_accept-table.ensures at
+    (c.decode_noted.ensures.own_index (indexed _ _ (rw c.pdu_session_establishment_accept-table.ensures (real 6).passes) (rw c.pdu_session_establishment_accept-table.ensures c.index_pdu_session_establishment_accept-index.ensures)) (rw c.pdu_session_establishment_accept-table.ensures (real 6).passes)
+    (rw c.pdu_session_establishment_accept-table.ensures (unplain 6 (omega arith) a.option a.octets.now a.rows.now c.requires)))

@@ -1,0 +1,9 @@
+-- `mandatory_least_at` is a number of the row that stands there.
+-- The law of row k, at this column.
+use mathlib.Core.Path.{ap, sym, ◌∙◌}
+use Rattle.definitions.specs.Mandatory.{MandatoryRow}
+use Rattle.definitions.proofs.TableLaws.{mandatory-at}
+use Rattle.rows.proofs.columns.mandatory_least_at.Goals as goal
+
+pub returns : goal.returns
+returns c = let a = c.args in c.wide.ensures ∙ c.plain_at.ensures ∙ ap (λ (r : MandatoryRow). r.least) (sym (mandatory-at a.table.now a.row))

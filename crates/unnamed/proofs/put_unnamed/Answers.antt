@@ -1,0 +1,53 @@
+-- `put_unnamed` puts a place a turn, or passes a named one: what is left of the places leads to all of them. Past the end nothing is put, and
+-- nothing of bare ones. The measure is how many are left.
+use Prim.Native.Nat.{◌+◌, ◌-◌}
+use native.Mathlib.Omega.{arith}
+use mathlib.Core.Path.{sym, ◌∙◌}
+use Rattle.seen.specs.Seen.{set_of}
+use Rattle.placing.specs.Pieces.{lent_of}
+use Rattle.placing.proofs.Pieces.{put-not, past-not, put-nothing, going-begun, going-as, going_on, going-not, going_end}
+use Rattle.unnamed.specs.Named.{unnamed}
+use Rattle.unnamed.proofs.Naming.{unnamed-past, unnamed_here, unnamed-over, bare-unnamed}
+use Rattle.unnamed.proofs.put_unnamed.Goals as goal
+
+pub returns-then-start-out : goal.returns-then-start-out
+returns-then-start-out c = put-not (past-not _ _ _ c.if-start-out.true)
+
+pub returns-then-is_bare : goal.returns-then-is_bare
+returns-then-is_bare c =
+    let a = c.args in
+    rw (bare-unnamed (lent_of a.table.now a.rows.now a.received.now a.set.now) (set_of a.names) (a.to - a.from) a.from (sym c.is_bare.ensures ∙ c.if-is_bare.true)) (put-nothing (omega (arith, c.if-start-out.false)))
+
+pub loop-k-init : goal.loop-k-init
+loop-k-init c = going-begun (omega arith)
+
+pub loop-k-preserved-then-seen_has : goal.loop-k-preserved-then-seen_has
+loop-k-preserved-then-seen_has c =
+    let a = c.args in
+    let l = c.loop-k in
+    going-as (unnamed-past (lent_of a.table.now a.rows.now a.received.now a.set.now) (set_of a.names) l.k a.to c.loop-k-test.true (sym c.seen_has.ensures ∙ c.if-seen_has.true)) l.invariant
+
+pub loop-k-preserved : goal.loop-k-preserved
+loop-k-preserved c =
+    let a = c.args in
+    let l = c.loop-k in
+    let m = lent_of a.table.now a.rows.now a.received.now a.set.now in
+    let e = unnamed_here m (set_of a.names) l.k a.to c.loop-k-test.true (sym c.seen_has.ensures ∙ c.if-seen_has.false) in
+    going_on (unnamed m (set_of a.names) (l.k + 1) (a.to - (l.k + 1))) (going-as e l.invariant) (rw c.in-To.is at c.put_between.ensures.put_by)
+
+pub returns-in-Not : goal.returns-in-Not
+returns-in-Not c =
+    let a = c.args in
+    let l = c.loop-k in
+    let m = lent_of a.table.now a.rows.now a.received.now a.set.now in
+    let e = unnamed_here m (set_of a.names) l.k a.to c.loop-k-test.true (sym c.seen_has.ensures ∙ c.if-seen_has.false) in
+    going-not (unnamed m (set_of a.names) (l.k + 1) (a.to - (l.k + 1))) (going-as e l.invariant) (rw c.in-Not.is at c.put_between.ensures.put_by)
+
+pub shape_of-out : goal.shape_of-out
+shape_of-out c = c.loop-k.invariant.long
+
+pub returns : goal.returns
+returns c =
+    let a = c.args in
+    let l = c.loop-k in
+    going_end (going-as (unnamed-over (lent_of a.table.now a.rows.now a.received.now a.set.now) (set_of a.names) l.k a.to c.loop-k-test.false) l.invariant)

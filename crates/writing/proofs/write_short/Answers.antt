@@ -1,0 +1,39 @@
+-- `write_short` makes the tests one after the other, and tries the pass where all hold.
+-- Each way out cites the law of its test.
+use native.Mathlib.Omega.{arith}
+use mathlib.Core.Path.{sym, ◌∙◌}
+use lib.ListN.{length-take}
+use Rattle.definitions.specs.Basic.{content, most_octets, most_log}
+use Rattle.kept.specs.Kept.{used_of}
+use Rattle.measured_writing.proofs.Encoding.{not-long}
+use Rattle.writing.specs.Passing.{most_passed}
+use Rattle.writing.proofs.Passing.{long-received, long_kept, long-set, long_order, no_rows, tried}
+use Rattle.writing.proofs.write_short.Goals as goal
+
+pub returns-then-received-gt-MOST_PASSED : goal.returns-then-received-gt-MOST_PASSED
+returns-then-received-gt-MOST_PASSED c = let a = c.args in long-received a.table.now a.index.now a.rows.now a.received.now (used_of a.set.now a.set_used) (used_of a.order.now a.order_used) (used_of a.kept.now a.kept_used) a.output.now c.if-received-gt-MOST_PASSED.true
+
+pub returns-then-too_long : goal.returns-then-too_long
+returns-then-too_long c = let a = c.args in long_kept a.table.now a.index.now a.rows.now a.received.now (used_of a.set.now a.set_used) (used_of a.order.now a.order_used) (used_of a.kept.now a.kept_used) a.output.now c.if-received-gt-MOST_PASSED.false (sym c.too_long.ensures ∙ c.if-too_long.true)
+
+pub returns-then-too_long-2 : goal.returns-then-too_long-2
+returns-then-too_long-2 c = let a = c.args in long-set a.table.now a.index.now a.rows.now a.received.now (used_of a.set.now a.set_used) (used_of a.order.now a.order_used) (used_of a.kept.now a.kept_used) a.output.now c.if-received-gt-MOST_PASSED.false (sym c.too_long.ensures ∙ c.if-too_long.false) (sym c.too_long-2.ensures ∙ c.if-too_long-2.true)
+
+pub returns-then-too_long-3 : goal.returns-then-too_long-3
+returns-then-too_long-3 c = let a = c.args in long_order a.table.now a.index.now a.rows.now a.received.now (used_of a.set.now a.set_used) (used_of a.order.now a.order_used) (used_of a.kept.now a.kept_used) a.output.now c.if-received-gt-MOST_PASSED.false (sym c.too_long.ensures ∙ c.if-too_long.false) (sym c.too_long-2.ensures ∙ c.if-too_long-2.false) (sym c.too_long-3.ensures ∙ c.if-too_long-3.true)
+
+pub returns-then-rows-places : goal.returns-then-rows-places
+returns-then-rows-places c = let a = c.args in no_rows a.table.now a.index.now a.rows.now a.received.now (used_of a.set.now a.set_used) (used_of a.order.now a.order_used) (used_of a.kept.now a.kept_used) a.output.now c.if-received-gt-MOST_PASSED.false (sym c.too_long.ensures ∙ c.if-too_long.false) (sym c.too_long-2.ensures ∙ c.if-too_long-2.false) (sym c.too_long-3.ensures ∙ c.if-too_long-3.false) (omega (arith, c.if-rows-places.true, c.places.ensures))
+
+pub slice_bounds-write_pass-end : goal.slice_bounds-write_pass-end
+slice_bounds-write_pass-end c = let a = c.args in let w = (not-long most_octets a.set.now a.set_used (sym c.too_long-2.ensures ∙ c.if-too_long-2.false)).0 in simp length-take (omega arith)
+
+pub slice_bounds-write_pass-end-2 : goal.slice_bounds-write_pass-end-2
+slice_bounds-write_pass-end-2 c = let a = c.args in let w = (not-long most_passed a.kept.now a.kept_used (sym c.too_long.ensures ∙ c.if-too_long.false)).0 in simp length-take (omega arith)
+
+pub slice_bounds-write_pass-end-3 : goal.slice_bounds-write_pass-end-3
+slice_bounds-write_pass-end-3 c = let a = c.args in let w = (not-long most_log a.order.now a.order_used (sym c.too_long-3.ensures ∙ c.if-too_long-3.false)).0 in simp length-take (omega arith)
+
+pub returns : goal.returns
+unfolding content
+returns c = let a = c.args in tried a.table.now a.index.now a.rows.now a.received.now (used_of a.set.now a.set_used) (used_of a.order.now a.order_used) (used_of a.kept.now a.kept_used) a.output.now c.if-received-gt-MOST_PASSED.false (sym c.too_long.ensures ∙ c.if-too_long.false) (sym c.too_long-2.ensures ∙ c.if-too_long-2.false) (sym c.too_long-3.ensures ∙ c.if-too_long-3.false) (omega (arith, c.if-rows-places.false, c.places.ensures)) c.write_pass.ensures
