@@ -1,9 +1,13 @@
 // What a program is handed: numbers as words, in decimal, which bin/launch makes of the user's.
+#![tactic(auto)]
+
 ghost use Rattle.std.specs.Prelude.{◌≡◌};
 ghost use Rattle.arguments.specs.Words.{number_of, number_as, digits_from};
 
+use std::env::Env;
+
 // A word as a number.
-#[derive(Drop)]
+#[derive(Clone, Copy)]
 pub enum Number {
     Is(u32),
     Not,
@@ -43,15 +47,17 @@ pub fn number_of(word: &[u8]) -> Number
 }
 
 // The number that the program's argument i is, counted from 1.
-pub fn argument(i: usize) -> Number {
+pub fn argument<R: Env>(rt: &R, i: usize) -> Number {
     let mut word = [0u8; 8];
-    let len = os::arg(i, &mut word);
-    number_of(&word[..len])
+    match rt.arg(i, &mut word) {
+        Ok(len) => number_of(&word[..len]),
+        Err(_) => Number::Not,
+    }
 }
 
 // The same, with a number for a word that is none.
-pub fn argument_or(i: usize, other: u32) -> u32 {
-    match argument(i) {
+pub fn argument_or<R: Env>(rt: &R, i: usize, other: u32) -> u32 {
+    match argument(rt, i) {
         Number::Is(n) => n,
         Number::Not => other,
     }

@@ -1,32 +1,35 @@
 // Why an element of an optional part was set aside: the part on standard input, one line on standard output. The arguments, as
 // bin/launch hands them over: 1 the table number, 2 whether the option is on, 3 the element's number, 4 whether the part is text in hex.
+#![tactic(auto)]
+
 use arguments::argument_or;
 use grounds::why_text;
+use std::process::ExitCode;
 use streams::{FAILED, read_part, tell, write_text};
 
 // One octet more than a part may have, so that a longer part is seen.
 const MOST_READ: usize = 4097;
 
-fn say(part: &[u8]) -> u8 {
+fn say(rt: &HostRuntime, part: &[u8]) -> u8 {
     let mut text = [0u8; 64];
-    let number = argument_or(1, 0);
-    let option = argument_or(2, 0) == 1;
-    let element = argument_or(3, 0) as usize;
+    let number = argument_or(rt, 1, 0);
+    let option = argument_or(rt, 2, 0) == 1;
+    let element = argument_or(rt, 3, 0) as usize;
     let told = why_text(number, part, option, element, &mut text);
     let len = told.len;
-    write_text(&text[..len], told.refused, b"nas-why: standard output")
+    write_text(rt, &text[..len], told.refused, b"nas-why: standard output")
 }
 
-fn say_input() -> u8 {
+fn say_input(rt: &HostRuntime) -> u8 {
     let mut part = [0u8; MOST_READ];
-    let input = read_part(&mut part, b"nas-why: standard input");
+    let input = read_part(rt, &mut part, b"nas-why: standard input");
     if input.failed {
         return FAILED;
     }
     let len = input.len;
-    say(&part[..len])
+    say(rt, &part[..len])
 }
 
-fn main() {
-    tell(say_input());
+fn main(rt: HostRuntime) -> ExitCode {
+    tell(say_input(&rt))
 }

@@ -4,6 +4,7 @@ ghost use Rattle.definitions.specs.Basic.{pick};
 ghost use Rattle.recorded.specs.Lent.{raised};
 
 use crate::cell;
+use std::io::Result;
 
 // Where the recorded answers are counted: behind all numbers.
 const SAME: usize = 256;
@@ -20,49 +21,46 @@ fn raise(counts: &mut [u32], k: usize)
     }
 }
 
-fn print_count(text: &[u8], n: u32) {
-    io::write_all(1, text);
-    io::print_decimal(1, n as u64);
-    io::write_all(1, b"\n");
+fn print_count<R: Print>(rt: &R, text: &str, n: u32) -> Result<()> {
+    println!(rt; "{text}{n}")
 }
 
 // Case k, with the number of its recorded answer: it is counted, and told where our answer is another one.
-pub fn report(counts: &mut [u32], number: u8, is_same: bool, k: u32)
+pub fn report<R: Print>(rt: &R, counts: &mut [u32], number: u8, is_same: bool, k: u32) -> Result<()>
     ensures { counts.new ≡ pick is_same (raised 256 (raised number counts.old)) (raised number counts.old) }
 {
     raise(counts, number as usize);
     if is_same {
         raise(counts, SAME);
-    } else {
-        print_count(b"another answer to case ", k);
+        return Ok(());
     }
+    print_count(rt, "another answer to case ", k)
 }
 
 // A number that some case has.
-fn print_refusal(k: usize, n: u32) {
+fn print_refusal<R: Print>(rt: &R, k: usize, n: u32) -> Result<()> {
     if n > 0 {
-        io::write_all(1, b"refusal ");
-        io::print_decimal(1, k as u64);
-        print_count(b" ", n);
+        return println!(rt; "refusal {k} {n}");
     }
+    Ok(())
 }
 
-fn print_refusals(counts: &[u32]) {
-    let mut k = 1;
-    while k < SAME {
-        print_refusal(k, cell(counts, k));
-        k += 1;
+fn print_refusals<R: Print>(rt: &R, counts: &[u32]) -> Result<()> {
+    for k in 1..SAME {
+        print_refusal(rt, k, cell(counts, k))?;
     }
+    Ok(())
 }
 
 // All counts, of the refusals those that are not 0, and how many cases there are; and where the list does not end with its last case,
 // that it does not.
-pub fn print_counts(cases: u32, counts: &[u32], is_whole: bool) {
-    print_count(b"done ", cell(counts, 0));
-    print_refusals(counts);
-    print_count(b"cases ", cases);
-    print_count(b"recorded answers ", cell(counts, SAME));
+pub fn print_counts<R: Print>(rt: &R, cases: u32, counts: &[u32], is_whole: bool) -> Result<()> {
+    print_count(rt, "done ", cell(counts, 0))?;
+    print_refusals(rt, counts)?;
+    print_count(rt, "cases ", cases)?;
+    print_count(rt, "recorded answers ", cell(counts, SAME))?;
     if !is_whole {
-        io::write_all(1, b"the list ends elsewhere than its last case\n");
+        return rt.println("the list ends elsewhere than its last case");
     }
+    Ok(())
 }

@@ -1,6 +1,8 @@
 // What the programs share that run recorded lists: the numbers and octets that stand at a position of a list, and where its parts end.
 // Behind the end of a list there are zeros. crates/replay/README.md has the format.
-ghost use Rattle.std.specs.Prelude.{◌≡◌, ◌+◌, ◌*◌, ◌≤◌, get_or, take, replicate};
+#![tactic(auto)]
+
+ghost use Rattle.std.specs.Prelude.{◌≡◌, ◌+◌, ◌*◌, ◌≤◌, length, get_or, take, replicate};
 ghost use Rattle.recorded.specs.Format.{after, number_from, repeat_at, string_end, string_length};
 
 pub mod answer;
@@ -11,12 +13,36 @@ pub mod lent;
 pub const LENT_TABLE: u8 = 255;
 
 use octets::{Cursor, Four, Pair};
+use std::io::Read;
 
 // A buffer for a whole list.
 pub fn list_buffer() -> [u8; 262144]
     ensures { result ≡ replicate 262144 0 }
 {
     [0u8; 262144]
+}
+
+// One read into the buffer, behind what stands there; none where it fails.
+fn read_behind<R: Read>(from: &mut R, list: &mut [u8], len: usize) -> usize
+    requires { len ≤ length list.old }
+    ensures { len + result ≤ length list.old }
+{
+    from.read(&mut list[len..]).unwrap_or(0)
+}
+
+// Reads until the buffer is full, the input ends or a read fails: how many octets were read.
+pub fn read_list<R: Read>(from: &mut R, list: &mut [u8]) -> usize
+    ensures { result ≤ length list.new }
+{
+    let mut len = 0;
+    while len < list.len() {
+        let more = read_behind(from, list, len);
+        if more == 0 {
+            return len;
+        }
+        len += more;
+    }
+    len
 }
 
 pub fn octet(list: &[u8], at: usize) -> u8

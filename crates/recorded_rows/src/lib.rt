@@ -1,5 +1,7 @@
 // Whether place rows are the recorded ones, by a list of the present places, each with its number, start, length and IEI, and whether what is behind them
 // is as it was lent.
+#![tactic(auto)]
+
 ghost use Rattle.std.specs.Prelude.{◌≡◌, drop};
 ghost use Rattle.recorded.specs.Format.{after as after-of};
 ghost use Rattle.recorded_rows.specs.Places.{all_are, row_is, place_is, next_is, behind_place, places_from};

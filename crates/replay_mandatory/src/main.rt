@@ -1,5 +1,7 @@
 // Runs the recorded list on standard input through our reading of mandatory rows, and prints how many cases there are of each number, how many
 // answers are the recorded ones in number, values, notes and all lent rows, and each case that is not. README.md has the format.
+#![tactic(auto)]
+
 use mandatory::by::decode_mandatory_ies_by;
 use mandatory::decode::{MandatoryRead, decode_mandatory_ies};
 use mandatory::notes::{Note, Notes};
@@ -9,15 +11,16 @@ use recorded::answer::answer_is;
 use recorded::counts::{print_counts, report};
 use recorded::lent::{lent_numbers, numbers_are, numbers_at, numbers_fit, string_at, string_fits};
 use recorded::{
-    LENT_TABLE, after, answer_end, four, front, list_buffer, numbers_end, octet, string_end,
-    string_len, two,
+    LENT_TABLE, after, answer_end, four, front, list_buffer, numbers_end, octet, read_list,
+    string_end, string_len, two,
 };
+use std::io::Result;
 
 // Notes that there is room for in an answer.
 const NOTES: usize = 32;
 
 // A case of the list: by which table, lenient or not, and where its parts stand.
-#[derive(Drop)]
+#[derive(Clone, Copy)]
 struct Case {
     number: u8,
     lenient: bool,
@@ -70,13 +73,11 @@ fn note_is(list: &[u8], at: usize, is_recorded: bool, note: Note) -> bool {
 fn notes_are(list: &[u8], at: usize, notes: Notes) -> bool {
     let n = two(list, at) / 2;
     let mut p = after(at, 2);
-    let mut i = 0;
-    while i < NOTES {
+    for i in 0..NOTES {
         if !note_is(list, p, i < n, note_at(notes, i)) {
             return false;
         }
         p = after(p, 8);
-        i += 1;
     }
     n == notes.count
 }
@@ -132,27 +133,25 @@ fn run_case(list: &[u8], c: Case) -> bool {
 }
 
 // All cases.
-fn run_list(list: &[u8], counts: &mut [u32]) -> usize {
+fn run_list<R: Print>(rt: &R, list: &[u8], counts: &mut [u32]) -> Result<usize> {
     let n = four(list, 0);
     let mut at = 4;
-    let mut k = 0u32;
-    while k < n {
+    for k in 0..n {
         let c = case_at(list, at);
-        report(counts, octet(list, c.said_at), run_case(list, c), k);
+        report(rt, counts, octet(list, c.said_at), run_case(list, c), k)?;
         at = c.end;
-        k += 1;
     }
-    at
+    Ok(at)
 }
 
-fn run_all(list: &[u8]) {
+fn run_all<R: Print>(rt: &R, list: &[u8]) -> Result<()> {
     let mut counts = [0u32; 257];
-    let end = run_list(list, &mut counts);
-    print_counts(four(list, 0), &counts, end == list.len());
+    let end = run_list(rt, list, &mut counts)?;
+    print_counts(rt, four(list, 0), &counts, end == list.len())
 }
 
-fn main() {
+fn main(rt: HostRuntime) -> Result<()> {
     let mut list = list_buffer();
-    let n = io::read_full(0, &mut list);
-    run_all(part(&list, 0, n));
+    let n = read_list(&mut rt.stdin(), &mut list);
+    run_all(&rt, part(&list, 0, n))
 }

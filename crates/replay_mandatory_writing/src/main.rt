@@ -1,5 +1,7 @@
 // Runs the recorded list on standard input through our writing of mandatory rows, and prints how many cases there are of each number, how many
 // answers are the recorded ones in number, value and all lent output, and each case that is not. README.md has the format.
+#![tactic(auto)]
+
 use mandatory_writing::by::encode_mandatory_ies_by;
 use mandatory_writing::encode::{MandatoryWrote, encode_mandatory_ies};
 use octets::part;
@@ -8,12 +10,13 @@ use recorded::answer::answer_is;
 use recorded::counts::{print_counts, report};
 use recorded::lent::{lent_octets, numbers_at, numbers_fit, output_is, string_at, string_fits};
 use recorded::{
-    LENT_TABLE, after, answer_end, four, front, list_buffer, number, numbers_end, octet,
+    LENT_TABLE, after, answer_end, four, front, list_buffer, number, numbers_end, octet, read_list,
     string_end, string_len, two, used, used_end,
 };
+use std::io::Result;
 
 // A case of the list: by which table, and where its parts stand.
-#[derive(Drop)]
+#[derive(Clone, Copy)]
 struct Case {
     number: u8,
     table_at: usize,
@@ -115,27 +118,25 @@ fn run_case(list: &[u8], c: Case) -> bool {
 }
 
 // All cases.
-fn run_list(list: &[u8], counts: &mut [u32]) -> usize {
+fn run_list<R: Print>(rt: &R, list: &[u8], counts: &mut [u32]) -> Result<usize> {
     let n = four(list, 0);
     let mut at = 4;
-    let mut k = 0u32;
-    while k < n {
+    for k in 0..n {
         let c = case_at(list, at);
-        report(counts, octet(list, c.said_at), run_case(list, c), k);
+        report(rt, counts, octet(list, c.said_at), run_case(list, c), k)?;
         at = c.end;
-        k += 1;
     }
-    at
+    Ok(at)
 }
 
-fn run_all(list: &[u8]) {
+fn run_all<R: Print>(rt: &R, list: &[u8]) -> Result<()> {
     let mut counts = [0u32; 257];
-    let end = run_list(list, &mut counts);
-    print_counts(four(list, 0), &counts, end == list.len());
+    let end = run_list(rt, list, &mut counts)?;
+    print_counts(rt, four(list, 0), &counts, end == list.len())
 }
 
-fn main() {
+fn main(rt: HostRuntime) -> Result<()> {
     let mut list = list_buffer();
-    let n = io::read_full(0, &mut list);
-    run_all(part(&list, 0, n));
+    let n = read_list(&mut rt.stdin(), &mut list);
+    run_all(&rt, part(&list, 0, n))
 }

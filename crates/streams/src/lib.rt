@@ -1,55 +1,85 @@
-// Standard input into a lent buffer, a text onto standard output, and the status, as a digit on a descriptor of its own: a program
-// has no status, so it tells it to bin/launch.
-ghost use Rattle.std.specs.Prelude.{◌≡◌, ◌+◌, ◌≤◌, length};
-ghost use Rattle.io.specs.Counts.{IsPrefixLen};
+// Standard input into a lent buffer, a text onto standard output, and the status that a program ends with.
+#![tactic(auto)]
+
+ghost use Rattle.std.specs.Prelude.{◌≡◌, ◌+◌, ◌≤◌, ◌<◌, ◌↔◌, IsTrue, length};
+ghost use Rattle.std.specs.Process.{exit_status};
+ghost use Rattle.streams.specs.Counts.{IsPrefixLen};
 
 use arguments::argument_or;
-use hex::{Ends, decode};
-use libc::{STDERR_FILENO, STDIN_FILENO, STDOUT_FILENO};
+use hex_text::{Ends, decode};
+use std::io::{Cursor, Error, Read, Write};
+use std::process::ExitCode;
 
-// A number that nothing else has open, so that a run without bin/launch tells it to nobody.
-const STATUS_FILENO: i32 = 99;
+// The status: it is done; the part is refused; it could not be read, or the text not be written.
+pub const DONE: u8 = 0;
 
-// What is told: it is done; the part is refused; it could not be read, or the text not be written.
-pub const DONE: u8 = b'0';
+pub const REFUSED: u8 = 1;
 
-pub const REFUSED: u8 = b'1';
-
-pub const FAILED: u8 = b'2';
+pub const FAILED: u8 = 2;
 
 // How many octets were read, and whether a read failed behind them.
-#[derive(Drop)]
+#[derive(Clone, Copy)]
 pub struct Input {
     pub len: usize,
     pub failed: bool,
 }
 
+// The words of an error's text, which ends in its number: " (os error 21)".
+fn words_len(text: &[u8]) -> usize
+    ensures { result ≤ length text.now }
+{
+    for (i, x) in text.iter().enumerate() {
+        if *x == b'(' {
+            return i.saturating_sub(1);
+        }
+    }
+    text.len()
+}
+
+// A line that tells what failed, and why.
+fn fail(rt: &HostRuntime, what: &[u8], error: Error) {
+    let mut writer = Cursor::new([0u8; 256]);
+    let _ = write!(writer, "{error}");
+    let len = writer.position().min(256) as usize;
+    let text = writer.into_inner();
+    let words = words_len(&text[..len]);
+    let _ = rt.stderr().write_all(what);
+    let _ = rt.stderr().write_all(b": ");
+    let _ = rt.stderr().write_all(&text[..words]);
+    let _ = rt.stderr().write_all(b"\n");
+}
+
 // One read.
-fn read_some(rest: &mut [u8]) -> Input
+fn read_some(rt: &HostRuntime, rest: &mut [u8], what: &[u8]) -> Input
     ensures { result.len ≤ length rest.old }
 {
-    let got = libc::read(STDIN_FILENO, rest);
-    Input {
-        len: io::count(got, rest),
-        failed: got < 0,
+    match rt.stdin().read(rest) {
+        Ok(len) => Input { len, failed: false },
+        Err(error) => {
+            fail(rt, what, error);
+            Input {
+                len: 0,
+                failed: true,
+            }
+        }
     }
 }
 
 // One read into the buffer, behind what stands there.
-fn read_behind(part: &mut [u8], len: usize) -> Input
+fn read_behind(rt: &HostRuntime, part: &mut [u8], len: usize, what: &[u8]) -> Input
     requires { len ≤ length part.old }
     ensures { len + result.len ≤ length part.old }
 {
-    read_some(&mut part[len..])
+    read_some(rt, &mut part[len..], what)
 }
 
-// Reads until the buffer is full, the input ends or a read fails.
-pub fn read_input(part: &mut [u8]) -> Input
+// Reads until the buffer is full, the input ends or a read fails, which is told with the given words.
+pub fn read_input(rt: &HostRuntime, part: &mut [u8], what: &[u8]) -> Input
     ensures { IsPrefixLen result.len part.new }
 {
     let mut len = 0;
     while len < part.len() {
-        let more = read_behind(part, len);
+        let more = read_behind(rt, part, len, what);
         if more.len == 0 {
             return Input {
                 len: len,
@@ -68,13 +98,12 @@ pub fn read_input(part: &mut [u8]) -> Input
 const MOST_HEX: usize = 16_384;
 
 // A line that tells what is wrong with standard input, by a number.
-fn refuse(what: &[u8], words: &[u8], n: usize) -> Input
+fn refuse(rt: &HostRuntime, what: &[u8], words: &[u8], n: usize) -> Input
     ensures { result.len ≡ 0 }
 {
-    io::write_all(STDERR_FILENO, what);
-    io::write_all(STDERR_FILENO, words);
-    io::print_decimal(STDERR_FILENO, n as u64);
-    io::write_all(STDERR_FILENO, b"\n");
+    let _ = rt.stderr().write_all(what);
+    let _ = rt.stderr().write_all(words);
+    let _ = rt.stderr().println(n);
     Input {
         len: 0,
         failed: true,
@@ -82,20 +111,20 @@ fn refuse(what: &[u8], words: &[u8], n: usize) -> Input
 }
 
 // The octets of a text, or what is wrong with it; of a long text not all was looked at.
-fn judged(ends: Ends, len: usize, long: bool, what: &[u8]) -> Input
+fn judged(rt: &HostRuntime, ends: Ends, len: usize, long: bool, what: &[u8]) -> Input
     ensures { result.len ≤ len }
 {
     match ends {
-        Ends::NoDigit(at) => refuse(what, b": no hex digit at ", at),
+        Ends::NoDigit(at) => refuse(rt, what, b": no hex digit at ", at),
         Ends::Odd(at) => {
             if long {
-                return refuse(what, b": octets of hex text over ", MOST_HEX);
+                return refuse(rt, what, b": octets of hex text over ", MOST_HEX);
             }
-            refuse(what, b": odd hex digit at ", at)
+            refuse(rt, what, b": odd hex digit at ", at)
         }
         Ends::Good => {
             if long {
-                return refuse(what, b": octets of hex text over ", MOST_HEX);
+                return refuse(rt, what, b": octets of hex text over ", MOST_HEX);
             }
             Input {
                 len: len,
@@ -106,13 +135,12 @@ fn judged(ends: Ends, len: usize, long: bool, what: &[u8]) -> Input
 }
 
 // A text of hex digits, decoded into the buffer.
-fn read_hex(part: &mut [u8], what: &[u8]) -> Input
+fn read_hex(rt: &HostRuntime, part: &mut [u8], what: &[u8]) -> Input
     ensures { IsPrefixLen result.len part.new }
 {
     let mut text = [0u8; 16_385];
-    let input = read_input(&mut text);
+    let input = read_input(rt, &mut text, what);
     if input.failed {
-        os::fail(what);
         return Input {
             len: 0,
             failed: true,
@@ -124,34 +152,34 @@ fn read_hex(part: &mut [u8], what: &[u8]) -> Input
     let ends = decoded.ends;
     let n = decoded.len;
     let long = n < room && len > MOST_HEX;
-    judged(ends, n, long, what)
+    judged(rt, ends, n, long, what)
 }
 
 // A part from standard input: raw octets, or hex digits where argument 4 is 1. What fails is told with the given words.
-pub fn read_part(part: &mut [u8], what: &[u8]) -> Input
+pub fn read_part(rt: &HostRuntime, part: &mut [u8], what: &[u8]) -> Input
     ensures { IsPrefixLen result.len part.new }
 {
-    if argument_or(4, 0) == 1 {
-        return read_hex(part, what);
+    if argument_or(rt, 4, 0) == 1 {
+        return read_hex(rt, part, what);
     }
-    let input = read_input(part);
-    if input.failed {
-        os::fail(what);
-        return input;
-    }
-    input
+    read_input(rt, part, what)
 }
 
 // A text onto standard output; where that fails, a line with the given words, and FAILED.
-pub fn write_text(text: &[u8], refused: bool, what: &[u8]) -> u8 {
-    if !io::write_all(STDOUT_FILENO, text) {
-        os::fail(what);
+pub fn write_text(rt: &HostRuntime, text: &[u8], refused: bool, what: &[u8]) -> u8
+    ensures most { result ≤ 2 }
+    ensures told { result < 2 → (IsTrue refused ↔ (result ≡ 1)) }
+{
+    if let Err(error) = rt.stdout().write_all(text) {
+        fail(rt, what, error);
         return FAILED;
     }
     if refused { REFUSED } else { DONE }
 }
 
-pub fn tell(status: u8) {
-    let text = [status];
-    io::write_all(STATUS_FILENO, &text);
+// A status as what `main` returns.
+pub fn tell(status: u8) -> ExitCode
+    ensures { exit_status result ≡ status }
+{
+    ExitCode::from(status)
 }

@@ -1,0 +1,2 @@
+-- Of what is read into a buffer.
+pub mod Counts
