@@ -79,7 +79,7 @@ fn main() {
     }
     if env::var("CARGO_FEATURE_LINKED").is_ok() {
         println!("cargo:rerun-if-env-changed=NAS_LIB");
-        link(&env::var("NAS_LIB").map_or(root.join("target/staticlib/libnas.a"), PathBuf::from));
+        link(&env::var("NAS_LIB").map_or(root.join("crates/nas/out/libnas.a"), PathBuf::from));
         let header = root.join("include/nas.h");
         println!("cargo:rerun-if-changed={}", header.display());
         let text = fs::read_to_string(&header).unwrap_or_else(|error| fail(format!("{}: {error}", header.display())));
@@ -159,7 +159,7 @@ fn link(library: &Path) {
     println!("cargo:rerun-if-changed={}", library.display());
     let (Some(folder), Some(name), true) = (library.parent(), library.file_name(), library.exists()) else {
         fail(format!(
-            "{} is not there: `rt staticlib nas` makes libnas.a, and compare/run calls that.",
+            "{} is not there: `rt lib` in crates/nas makes libnas.a, and compare/run calls that.",
             library.display()
         ))
     };

@@ -15,8 +15,8 @@ else
     echo "rt makes libnas.a for x86-64, and this machine is $(uname -m). NAS_LIB names one that is made for it, and compare/run --model needs none." >&2
     exit 2
   fi
-  (cd .. && rt staticlib nas)
-  library=../target/staticlib/libnas.a
+  (cd ../crates/nas && rt lib)
+  library=../crates/nas/out/libnas.a
 fi
 if [[ ! -f $library ]]; then
   echo "$library is not there." >&2
