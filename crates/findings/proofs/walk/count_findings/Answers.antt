@@ -3,7 +3,6 @@
 use native.Mathlib.Omega.{arith}
 use Rattle.findings.proofs.Walked.{count-begun, count_none, count-one, count-ended}
 use Rattle.findings.proofs.walk.count_findings.Goals as goal
-use Rattle.findings.proofs.walk.count_findings.Goals.{then-s-ne0, else-s-ne0}
 
 pub loop-w-init : goal.loop-w-init
 loop-w-init c = let a = c.args in count-begun a.index.now a.order.now a.kept.now c.requires
@@ -22,11 +21,7 @@ loop-w-preserved c =
     let a = c.args in
     let l = c.loop-w in
     let s = c.next_entry-s in
-    elim
-    c.if-s-ne0.branch [
-      | then-s-ne0 t ↦ rw t.n-is (count-one a.index.now a.order.now a.kept.now l.w l.n l.invariant s.result s.ensures t.if-s-ne0.true)
-      | else-s-ne0 t ↦ rw t.n-is (count_none a.index.now a.order.now a.kept.now l.w l.n l.invariant s.result s.ensures t.if-s-ne0.false)
-    ]
+    grind (arith, count-one a.index.now a.order.now a.kept.now l.w l.n l.invariant s.result s.ensures, count_none a.index.now a.order.now a.kept.now l.w l.n l.invariant s.result s.ensures)
 
 pub returns : goal.returns
 returns c = let a = c.args in count-ended a.index.now a.order.now a.kept.now c.loop-w.w c.loop-w.n c.loop-w.invariant (omega arith)

@@ -2,9 +2,9 @@
 -- Each way out cites the law of its check; what was measured is as long as what is written.
 use Prim.Native.Nat.{ℕ}
 use native.Mathlib.Omega.{arith}
-use mathlib.Core.Path.{ap, sym, ◌∙◌}
+use mathlib.Core.Path.{◌≡◌, ap, sym, ◌∙◌}
 use mathlib.Core.List.{List, []}
-use mathlib.Core.Bool.{false}
+use mathlib.Core.Bool.{true, false}
 use lib.ListN.{length}
 use Rattle.definitions.specs.Basic.{over}
 use Rattle.definitions.specs.Rows.{rows_of}
@@ -16,10 +16,11 @@ use Rattle.measured_writing.specs.Sizes.{SurveyedBy}
 use Rattle.measured_writing.specs.declared.sizes.Surveyed.{Surveyed}
 use Rattle.measured_writing.proofs.Encoding.{needed, all_left, writable, wrong-rows, apart-rows, bad-rows, no-fit, no_output, done}
 use Rattle.measured_writing.proofs.Walked.{all-written}
+use Rattle.std.proofs.Common.{rules}
 use Rattle.measured_writing.proofs.encode.encode_formed.Goals as goal
 
 pub returns-then-t : goal.returns-then-t
-returns-then-t c = let a = c.args in let m = filled_of a.table.now a.rows.now a.received.now a.set.now in let k = kept-told a.kept.now c.requires.2 in bad-rows a.table.now a.index.now a.rows.now a.received.now a.set.now a.kept.now a.order.now a.output.now c.requires.0 c.requires.1.tells.ps c.requires.1.tells.is k.es k.kept-is (apart-rows m (set_of a.t.seen) c.requires.1.tells.ps (rw c.if-t.true at c.requires.1.agrees))
+returns-then-t c = let a = c.args in let m = filled_of a.table.now a.rows.now a.received.now a.set.now in let k = kept-told a.kept.now c.requires.2 in bad-rows a.table.now a.index.now a.rows.now a.received.now a.set.now a.kept.now a.order.now a.output.now c.requires.0 c.requires.1.tells.ps c.requires.1.tells.is k.es k.kept-is (apart-rows m (set_of a.t.seen) c.requires.1.tells.ps (let apart : c.args.t.apart ≡ true = search rules in rw apart at c.requires.1.agrees))
 
 pub survey-requires : goal.survey-requires
 survey-requires c = (c.requires.0.sized.passes, c.requires.0.sized.received-short, c.requires.0.sized.set-short)
@@ -34,24 +35,24 @@ overflow_add-need-in-Added c =
 
 pub returns-then-output-need : goal.returns-then-output-need
 returns-then-output-need c =
-    let agreed : Agreeing (rows_of c.args.table.now) c.args.rows.now c.requires.1.tells.ps [] (set_of c.args.t.seen) false = rw c.if-t.false at c.requires.1.agrees in
+    let agreed : Agreeing (rows_of c.args.table.now) c.args.rows.now c.requires.1.tells.ps [] (set_of c.args.t.seen) false = (let apart : c.args.t.apart ≡ false = search rules in rw apart at c.requires.1.agrees) in
     let surveyed : SurveyedBy (filled_of c.args.table.now c.args.rows.now c.args.received.now c.args.set.now) (set_of c.args.t.seen) (Surveyed.Added c.in-Added.a) = rw c.in-Added.is at c.survey.ensures in
     let a = c.args in let m = filled_of a.table.now a.rows.now a.received.now a.set.now in let k = kept-told a.kept.now c.requires.2 in no_output a.table.now a.index.now a.rows.now a.received.now a.set.now a.kept.now a.order.now a.output.now c.requires.0 c.requires.1.tells.ps c.requires.1.tells.is k.es k.kept-is (sym (wrong-rows m (set_of a.t.seen) c.requires.1.tells.ps (agreed)) ∙ (surveyed).0) (surveyed).1 _ (needed m a.order.now a.t.octets (set_of a.t.seen) (set_of c.in-Added.a.seen) c.requires.1.tells (surveyed).2 k.es k.octets-are (surveyed).3) c.if-output-need.true
 
 pub returns-in-Malformed : goal.returns-in-Malformed
 returns-in-Malformed c =
-    let agreed : Agreeing (rows_of c.args.table.now) c.args.rows.now c.requires.1.tells.ps [] (set_of c.args.t.seen) false = rw c.if-t.false at c.requires.1.agrees in
+    let agreed : Agreeing (rows_of c.args.table.now) c.args.rows.now c.requires.1.tells.ps [] (set_of c.args.t.seen) false = (let apart : c.args.t.apart ≡ false = search rules in rw apart at c.requires.1.agrees) in
     let a = c.args in let m = filled_of a.table.now a.rows.now a.received.now a.set.now in let k = kept-told a.kept.now c.requires.2 in bad-rows a.table.now a.index.now a.rows.now a.received.now a.set.now a.kept.now a.order.now a.output.now c.requires.0 c.requires.1.tells.ps c.requires.1.tells.is k.es k.kept-is (sym (wrong-rows m (set_of a.t.seen) c.requires.1.tells.ps (agreed)) ∙ rw c.in-Malformed.is at c.survey.ensures)
 
 pub returns-in-Unfit : goal.returns-in-Unfit
 returns-in-Unfit c =
-    let agreed : Agreeing (rows_of c.args.table.now) c.args.rows.now c.requires.1.tells.ps [] (set_of c.args.t.seen) false = rw c.if-t.false at c.requires.1.agrees in
+    let agreed : Agreeing (rows_of c.args.table.now) c.args.rows.now c.requires.1.tells.ps [] (set_of c.args.t.seen) false = (let apart : c.args.t.apart ≡ false = search rules in rw apart at c.requires.1.agrees) in
     let a = c.args in let m = filled_of a.table.now a.rows.now a.received.now a.set.now in let k = kept-told a.kept.now c.requires.2 in let s = rw c.in-Unfit.is at c.survey.ensures in no-fit a.table.now a.index.now a.rows.now a.received.now a.set.now a.kept.now a.order.now a.output.now c.requires.0 c.requires.1.tells.ps c.requires.1.tells.is k.es k.kept-is (sym (wrong-rows m (set_of a.t.seen) c.requires.1.tells.ps (agreed)) ∙ s.0) s.1
 
 pub returns-else-output-need : goal.returns-else-output-need
 returns-else-output-need c =
     let surveyed : SurveyedBy (filled_of c.args.table.now c.args.rows.now c.args.received.now c.args.set.now) (set_of c.args.t.seen) (Surveyed.Added c.in-Added.a) = rw c.in-Added.is at c.survey.ensures in
-    let agreed : Agreeing (rows_of c.args.table.now) c.args.rows.now c.requires.1.tells.ps [] (set_of c.args.t.seen) false = rw c.if-t.false at c.requires.1.agrees in
+    let agreed : Agreeing (rows_of c.args.table.now) c.args.rows.now c.requires.1.tells.ps [] (set_of c.args.t.seen) false = (let apart : c.args.t.apart ≡ false = search rules in rw apart at c.requires.1.agrees) in
     let a = c.args in
     let l = c.requires.0 in
     let g = c.requires.1.tells in
