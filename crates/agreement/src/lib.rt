@@ -8,7 +8,7 @@ ghost use Rattle.seen.specs.Seen.{set_of};
 ghost use Rattle.values.specs.Rows.{value_of};
 ghost use Rattle.agreement.specs.Agreed.{apart_by};
 
-use seen::{Seen, seen_has};
+use seen::Seen;
 use values::row::{ValueRow, row_at};
 
 // Whether a row is present under another IEI.
@@ -28,7 +28,7 @@ pub fn apart_with(rows: &[u32], seen: Seen, apart: bool, place: usize, iei: u32)
     if apart {
         return true;
     }
-    if seen_has(seen, place) {
+    if seen.has(place) {
         return false;
     }
     is_unlike(row_at(rows, place), iei)

@@ -1,5 +1,5 @@
 -- What a call of the C interface returns, and the values that it puts.
-use Rattle.std.specs.Prelude.{ℕ, suc, ◌≡◌, List, [], ◌∷◌, length, set}
+use Rattle.std.specs.Prelude.{ℕ, suc, ◌≡◌, List, [], ◌∷◌, length, set, Result, Ok, Err}
 use Rattle.std.proofs.Math.Option.{Option, none, some}
 use Rattle.definitions.specs.Basic.{Answer, answer}
 use Rattle.definitions.specs.Reading.{Read}
@@ -8,7 +8,7 @@ use Rattle.definitions.specs.Values.{Edited}
 use Rattle.definitions.specs.Writing.{Wrote}
 use Rattle.definitions.specs.Findings.{Noted}
 use Rattle.definitions.specs.Mandatory.{RowsWrote}
-use Rattle.length.specs.declared.UnknownLength.{UnknownLength}
+use Rattle.length.specs.declared.CutShort.{CutShort}
 
 -- values stored one after the other from a place on; every other place is as it was. The five lent places are known by their
 -- number alone, which no contract tells as a length, so this is said by stores; with as many places as values it is `over`
@@ -79,6 +79,6 @@ abbrev pub length_answer : ℕ → Option ℕ → Answer
 length_answer m none = answer 1 (m ∷ [])
 length_answer m (some n) = answer 0 (n ∷ [])
 
-abbrev pub length_as : UnknownLength → Answer
-length_as (UnknownLength.Octets n) = answer 0 (n ∷ [])
-length_as (UnknownLength.CutShort m) = answer 1 (m ∷ [])
+abbrev pub length_as : Result ℕ CutShort → Answer
+length_as (Ok n) = answer 0 (n ∷ [])
+length_as (Err e) = answer 1 (e.missing ∷ [])

@@ -11,18 +11,18 @@ ghost use Rattle.order.specs.Order.{placed_as, entry_as};
 ghost use Rattle.values.specs.Shows.{shown_as};
 ghost use Rattle.rows.specs.Answers.{place_as};
 ghost use Rattle.checks.specs.Answers.{checked_as};
-ghost use Rattle.answers.specs.Nexts.{state_numbers, verdict_number, NextSays};
+ghost use Rattle.answers.specs.Nexts.{state_numbers, verdict_number, place_number, NextSays};
+ghost use Rattle.elements.specs.Steps.{cut_answer};
 ghost use Rattle.answers.specs.Says.{put, Says, check_answer, place_answer, length_as};
 
-use checks::Checked;
-use edits::Edited;
-use elements::element::State;
-use elements::next::NextElement;
-use kept::{Counted, Got, Pushed};
-use length::UnknownLength;
-use order::{Entry, IgnoredIeReason, Placed};
-use rows::index::Place;
-use values::show::Shown;
+use checks::BadRow;
+use edits::{EditError, Edited};
+use elements::element::{Cut, Element, State};
+use elements::next::NextError;
+use kept::{LogError, PushError, Span};
+use length::CutShort;
+use order::{IgnoredIeReason, Placed};
+use values::show::{ShowError, Shown};
 
 // A number with no value, and with one to four of them: how many, then each.
 pub fn none(number: u32, values: &mut [u64; 5]) -> u32
@@ -60,63 +60,68 @@ pub fn four(number: u32, a: u64, b: u64, c: u64, d: u64, values: &mut [u64; 5]) 
     number
 }
 
-pub fn length_said(length: UnknownLength, values: &mut [u64; 5]) -> u32
+pub fn length_said(length: Result<usize, CutShort>, values: &mut [u64; 5]) -> u32
     ensures { Says (length_as length) result values.old values.new }
 {
     match length {
-        UnknownLength::Octets(n) => one(0, n as u64, values),
-        UnknownLength::CutShort(missing) => one(1, missing as u64, values),
+        Ok(n) => one(0, n as u64, values),
+        Err(CutShort { missing }) => one(1, missing as u64, values),
     }
 }
 
-pub fn checked_said(checked: Checked, values: &mut [u64; 5]) -> u32
+pub fn checked_said(checked: Result<(), BadRow>, values: &mut [u64; 5]) -> u32
     ensures { Says (check_answer (checked_as checked)) result values.old values.new }
 {
     match checked {
-        Checked::Passes => none(0, values),
-        Checked::BadRow(row) => one(4, row as u64, values),
+        Ok(()) => none(0, values),
+        Err(BadRow(row)) => one(4, row as u64, values),
     }
 }
 
-pub fn place_said(place: Place, values: &mut [u64; 5]) -> u32
+pub fn place_said(place: Option<usize>, values: &mut [u64; 5]) -> u32
     ensures { Says (place_answer (place_as place)) result values.old values.new }
 {
     match place {
-        Place::At(k) => one(0, k as u64, values),
-        Place::Nowhere => none(0, values),
+        Some(k) => one(0, k as u64, values),
+        None => none(0, values),
     }
 }
 
 // A malformed log and a log without room have the numbers of that log: 2 and 2 of the kept log, 1 and 3 of the order log.
-pub fn pushed_said(pushed: Pushed, which: u64, room: u64, values: &mut [u64; 5]) -> u32
+pub fn pushed_said(
+    pushed: Result<usize, PushError>,
+    which: u64,
+    room: u64,
+    values: &mut [u64; 5],
+) -> u32
     ensures { Says (pushed_as which room pushed) result values.old values.new }
 {
     match pushed {
-        Pushed::Used(n) => one(0, n as u64, values),
-        Pushed::TooLong => none(3, values),
-        Pushed::Malformed => one(11, which, values),
-        Pushed::NoRoom => one(2, room, values),
+        Ok(n) => one(0, n as u64, values),
+        Err(PushError::TooLong) => none(3, values),
+        Err(PushError::Malformed) => one(11, which, values),
+        Err(PushError::NoRoom) => one(2, room, values),
     }
 }
 
-pub fn counted_said(counted: Counted, values: &mut [u64; 5]) -> u32
+pub fn counted_said(counted: Result<usize, LogError>, values: &mut [u64; 5]) -> u32
     ensures { Says (counted_as counted) result values.old values.new }
 {
     match counted {
-        Counted::Elements(n) => one(0, n as u64, values),
-        Counted::TooLong => none(3, values),
-        Counted::Malformed => one(11, 2, values),
+        Ok(n) => one(0, n as u64, values),
+        Err(LogError::TooLong) => none(3, values),
+        Err(LogError::Malformed) => one(11, 2, values),
     }
 }
 
-pub fn got_said(got: Got, values: &mut [u64; 5]) -> u32
+pub fn got_said(got: Result<Option<Span>, LogError>, values: &mut [u64; 5]) -> u32
     ensures { Says (got_as got) result values.old values.new }
 {
     match got {
-        Got::Element(start, len) => two(0, start as u64, len as u64, values),
-        Got::PastLast => none(0, values),
-        Got::TooLong => none(3, values),
-        Got::Malformed => one(11, 2, values),
+        Ok(Some(Span { start, len })) => two(0, start as u64, len as u64, values),
+        Ok(None) => none(0, values),
+        Err(LogError::TooLong) => none(3, values),
+        Err(LogError::Malformed) => one(11, 2, values),
     }
 }
 
@@ -141,36 +146,36 @@ fn placed_said(placed: Placed, values: &mut [u64; 5]) -> u32
     }
 }
 
-pub fn entry_said(entry: Entry, values: &mut [u64; 5]) -> u32
+pub fn entry_said(entry: Result<Option<Placed>, LogError>, values: &mut [u64; 5]) -> u32
     ensures { Says (entry_as entry) result values.old values.new }
 {
     match entry {
-        Entry::Is(placed) => placed_said(placed, values),
-        Entry::PastLast => none(0, values),
-        Entry::TooLong => none(3, values),
-        Entry::Malformed => one(11, 1, values),
+        Ok(Some(placed)) => placed_said(placed, values),
+        Ok(None) => none(0, values),
+        Err(LogError::TooLong) => none(3, values),
+        Err(LogError::Malformed) => one(11, 1, values),
     }
 }
 
-pub fn shown_said(shown: Shown, values: &mut [u64; 5]) -> u32
+pub fn shown_said(shown: Result<Option<Shown>, ShowError>, values: &mut [u64; 5]) -> u32
     ensures { Says (shown_as shown) result values.old values.new }
 {
     match shown {
-        Shown::Absent => none(0, values),
-        Shown::Half(x, iei) => two(0, x as u64, iei as u64, values),
-        Shown::Value(row) => four(
+        Ok(None) => none(0, values),
+        Ok(Some(Shown::Half(x, iei))) => two(0, u64::from(x), u64::from(iei), values),
+        Ok(Some(Shown::Value(row))) => four(
             0,
-            row.source as u64,
-            row.start as u64,
-            row.len as u64,
-            row.iei as u64,
+            u64::from(row.source),
+            u64::from(row.start),
+            u64::from(row.len),
+            u64::from(row.iei),
             values,
         ),
-        Shown::BadTable(row) => one(4, row as u64, values),
-        Shown::TooLong => none(3, values),
-        Shown::NoRoom => one(2, 1, values),
-        Shown::Malformed => one(11, 3, values),
-        Shown::Unfit(place) => one(10, place as u64, values),
+        Err(ShowError::BadTable(row)) => one(4, row as u64, values),
+        Err(ShowError::TooLong) => none(3, values),
+        Err(ShowError::NoRoom) => one(2, 1, values),
+        Err(ShowError::Malformed) => one(11, 3, values),
+        Err(ShowError::Unfit(place)) => one(10, place as u64, values),
     }
 }
 
@@ -178,15 +183,15 @@ pub fn edited_said(edited: Edited, values: &mut [u64; 5]) -> u32
     ensures { Says (edited_as edited) result values.old values.new }
 {
     match edited {
-        Edited::Set(used) => one(0, used as u64, values),
-        Edited::Cleared => none(0, values),
-        Edited::BadTable(row) => one(4, row as u64, values),
-        Edited::TooLong => none(3, values),
-        Edited::NoRoom => one(2, 1, values),
-        Edited::MalformedLog => one(11, 1, values),
-        Edited::Malformed => one(11, 3, values),
-        Edited::Unfit(place) => one(10, place as u64, values),
-        Edited::NoSet(need) => one(12, need as u64, values),
+        Ok(Some(used)) => one(0, used as u64, values),
+        Ok(None) => none(0, values),
+        Err(EditError::BadTable(row)) => one(4, row as u64, values),
+        Err(EditError::TooLong) => none(3, values),
+        Err(EditError::NoRoom) => one(2, 1, values),
+        Err(EditError::MalformedLog) => one(11, 1, values),
+        Err(EditError::Malformed) => one(11, 3, values),
+        Err(EditError::Unfit(place)) => one(10, place as u64, values),
+        Err(EditError::NoSet(need)) => one(12, need as u64, values),
     }
 }
 
@@ -221,33 +226,49 @@ fn put_state(s: State, state: &mut [u64; 4])
     state[3] = s.highest as u64;
 }
 
-pub fn next_said(next: NextElement, state: &mut [u64; 4], values: &mut [u64; 5]) -> u32
+// The four values of an unknown element that is cut short.
+pub fn cut_said(cut: Cut, values: &mut [u64; 5]) -> u32
+    ensures { Says (cut_answer cut) result values.old values.new }
+{
+    four(
+        1,
+        cut.start as u64,
+        u64::from(cut.first),
+        cut.left as u64,
+        cut.missing as u64,
+        values,
+    )
+}
+
+// The place of an element as a number, 255 where it has none.
+fn place_number(place: Option<usize>) -> u64
+    ensures { result ≡ place_number place }
+{
+    place.map_or(255, |place| place as u64)
+}
+
+pub fn next_said(
+    next: Result<Option<(Element, State)>, NextError>,
+    state: &mut [u64; 4],
+    values: &mut [u64; 5],
+) -> u32
     ensures { NextSays next result values.old values.new state.old state.new }
 {
     match next {
-        NextElement::Next(e, after) => {
-            let placed = e.placed;
-            let verdict = verdict_of(placed);
+        Ok(Some((e, after))) => {
             put_state(after, state);
             four(
                 0,
                 e.len as u64,
-                e.iei as u64,
-                e.place as u64,
-                verdict,
+                u64::from(e.iei),
+                place_number(e.place),
+                verdict_of(e.placed),
                 values,
             )
         }
-        NextElement::Cut(start, x, left, missing) => four(
-            1,
-            start as u64,
-            x as u64,
-            left as u64,
-            missing as u64,
-            values,
-        ),
-        NextElement::End => none(0, values),
-        NextElement::TooLong => none(3, values),
-        NextElement::BadTable(row) => one(4, row as u64, values),
+        Ok(None) => none(0, values),
+        Err(NextError::CutShort(cut)) => cut_said(cut, values),
+        Err(NextError::TooLong) => none(3, values),
+        Err(NextError::BadTable(row)) => one(4, row as u64, values),
     }
 }

@@ -1,3 +1,2 @@
 -- What the answers of this crate are by the definitions.
-pub mod Fitting
 pub mod Blocks

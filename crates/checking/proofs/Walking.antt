@@ -2,13 +2,14 @@
 -- place that may come; behind it only lengths count. What is left at a position gives the answer of the whole part.
 use Prim.Native.Nat.{ℕ, suc, ◌+◌, ◌≤◌, ◌<◌}
 use native.Mathlib.Omega.{arith}
-use mathlib.Core.Path.{◌≡◌, refl, ap, sym, subst, ◌∙◌}
+use mathlib.Core.Path.{◌≡◌, refl, ap, sym, ◌∙◌}
 use mathlib.Core.List.{List, [], ◌∷◌}
 use mathlib.Core.Bool.{Bool, true, false, ◌&&◌}
 use mathlib.Core.Option.{Option, none, some}
 use lib.ListN.{length, get_or, take, drop, length-drop}
 use lib.Seq.{drop-drop, get_or-drop, length-take-le}
 use lib.Dec.{leb, eqb}
+use Rattle.std.specs.Prelude.{Option as Answered, Some, None, Result, Ok, Err, MatchResult, IsErrAnd}
 use borrow.Author.Tests.{le-leb, lt-leb, eq-eqb, ne_eqb, eqb-true, eqb-false}
 use Rattle.definitions.specs.Basic.{pick, Answer, answer, refusal, unless}
 use Rattle.definitions.specs.Rows.{Row, rows_of, row_at, form, first_iei, iei_of, place_of}
@@ -20,16 +21,13 @@ use Rattle.definitions.specs.Reading.{cut_of}
 use Rattle.definitions.specs.Checking.{offender, checking, checking_by}
 use Rattle.definitions.proofs.Steps.{Frames, whole-frames, Front, front-octets, front-first, placed, stands-step, parted_from, parted-step}
 use Rattle.definitions.proofs.Checkings.{check-tail, tail_of, stopped_at, tail-strange, tail-bad, tail-good, test, cut-before, cut-any, InTurn, turn-first, turn-next, turn-verdict}
+use Rattle.length.specs.declared.CutShort.{CutShort}
 use Rattle.order.specs.declared.Placed.{Placed}
-use Rattle.rows.specs.Numbers.{numbers_at, row_said}
 use Rattle.rows.proofs.Indexed.{no_place, some-place}
-use Rattle.elements.specs.Steps.{fit_of, came_strange}
-use Rattle.elements.specs.declared.element.Came.{Came}
-use Rattle.elements.proofs.Came.{row_same}
-use Rattle.numbered.specs.Loads.{Loads}
-use Rattle.numbered.specs.declared.Loaded.{Loaded}
-use Rattle.numbered.proofs.Loading.{IsLoaded, is-loaded, none-loaded}
-use Rattle.checking.specs.Checks.{cut_from, stopped_in, came_by, Ready}
+use Rattle.elements.specs.Steps.{fit_of, came_strange, place_at, cut_answer}
+use Rattle.elements.specs.declared.element.Cut.{Cut}
+use Rattle.elements.proofs.Came.{row_same, place-some, place_none}
+use Rattle.checking.specs.Checks.{cut_from, stopped_in, len_of, len_by, Ready}
 
 -- a part that is cut is refused as such
 cut-tail : (t : List Row) (least at a y i j : ℕ) → tail_of t least (cut_short a y i j) ≡ stopped_at at (cut_of (cut_short a y i j))
@@ -41,6 +39,10 @@ unknown-frames : (start : ℕ) (s : List ℕ) → 1 ≤ length s → Frames (unk
 unfolding unknown_length
 unknown-frames start [] h = absurd (omega arith)
 unknown-frames start (x ∷ xs) h = whole-frames (unknown_form start x) (x ∷ xs)
+
+-- a length, where an element that is cut short is told with its start, its first octet and the octets to the end
+abbrev pub Told : ℕ → ℕ → ℕ → Result ℕ CutShort → Result ℕ Cut → Type 0
+Told a y n o m = MatchResult o (λ (i : ℕ). m ≡ Ok i) (λ (e : CutShort). IsErrAnd m (λ (d : Cut). d ≡ record { start = a; first = y; left = n; missing = e.missing }))
 
 -- ---- the element at a position
 
@@ -124,10 +126,20 @@ module _ (t : List Row) (start : ℕ) (part : List ℕ) where
         unfolding known
         passes_on h = ap (tail_of t least) (rest-known m) ∙ tail-good t least at o e.verdict k _ h
 
-    -- how far it reaches, as `came_by` says; or the cut
-    abbrev pub Goes : Came → Type 0
-    Goes (Came.Is i q) = (1 ≤ i) × (at + i ≤ length part) × (cut_of (rest nothing_met at) ≡ cut_of (rest nothing_met (at + i)))
-    Goes (Came.Cut j) = cut_of (rest nothing_met at) ≡ some (answer 1 (at ∷ x ∷ length left ∷ j ∷ []))
+    -- how far it reaches, as `len_by` says; or the cut
+    abbrev pub Goes : Result ℕ CutShort → Type 0
+    Goes (Ok i) = (1 ≤ i) × (at + i ≤ length part) × (cut_of (rest nothing_met at) ≡ cut_of (rest nothing_met (at + i)))
+    Goes (Err e) = cut_of (rest nothing_met at) ≡ some (answer 1 (at ∷ x ∷ length left ∷ e.missing ∷ []))
+
+    -- by what `map_err` says of it
+    pub goes-on : (o : Result ℕ CutShort) {n : ℕ} → Goes o → MatchResult o (λ i. ◌≡◌ {A = Result ℕ Cut} (Ok n) (Ok i)) (λ e. ⊥) → Goes (Ok n)
+    goes-on (Ok i) {n} g h = let q : n ≡ i = cc in rw q g
+    goes-on (Err e) g h = absurd h
+
+    pub goes-cut : (o : Result ℕ CutShort) (m : Result ℕ Cut) {c : Cut} → Goes o → Told at x (length left) o m → m ≡ Err c → some (cut_answer c) ≡ cut_of (rest nothing_met at)
+    goes-cut (Ok i) m g t q = cc
+    goes-cut (Err e) (Ok v) g t q = absurd t
+    goes-cut (Err e) (Err d) {c} g t q = let i : c ≡ record { start = at; first = x; left = length left; missing = e.missing } = cc in rw i (sym g)
 
     -- without a place
     module _ (p : place_of t (iei_of x) ≡ none) where
@@ -161,17 +173,17 @@ module _ (t : List Row) (start : ℕ) (part : List ℕ) where
       onward : (o : List ℕ) (i : ℕ) → length o ≡ i → cut_of (before (stranger at o) (parted_from t start false nothing_met (at + length o) (drop (length o) left))) ≡ cut_of (rest nothing_met (at + i))
       onward o i e = cut-before (stranger at o) _ ∙ rw e (ap cut_of (behind nothing_met i))
 
-      pub strange-goes : Goes (came_strange x (missing start left) left (unknown_length start left))
+      pub strange-goes : Goes (len_of (came_strange x (missing start left) left (unknown_length start left)))
       unfolding stranger_step step_then stranger cut_of
       strange-goes = by (unknown_length start left) (ap cut_of (rest-strange nothing_met)) (unknown-frames start left some_left)
         where
           if : (b : Bool) → cut_of (rest nothing_met at) ≡ cut_of (then (pick b (cut at x (length left) (missing start left)) (next (stranger at left) nothing_met)))
-              → Goes (pick b (Came.Cut (missing start left)) (Came.Is (length left) Placed.Unknown))
+              → Goes (len_of (pick b (Err (record { missing = missing start left })) (Ok (record { len = length left; placed = Placed.Unknown }))))
           if true q = q
           if false q = (some_left, omega (arith, length-drop at part), q ∙ onward left (length left) refl)
 
           by : (o : Option ℕ) → cut_of (rest nothing_met at) ≡ cut_of (then (stranger_step start nothing_met at x left o)) → Frames (unknown_form start (get_or left 0 0)) left o
-              → Goes (came_strange x (missing start left) left o)
+              → Goes (len_of (came_strange x (missing start left) left o))
           by none q f = if (required x) q
           by (some i) q f = (f.2, omega (arith, f.1, length-drop at part), q ∙ onward (take i left) i (length-take-le i left f.1))
 
@@ -200,43 +212,50 @@ stopped-same : (at : ℕ) (c : Option Answer) → stopped_at at c ≡ unless c (
 stopped-same at none = refl
 stopped-same at (some a) = refl
 
-abbrev pub Stops : List ℕ → ℕ → List ℕ → ℕ → Type 0
-Stops table start part at = checking table start part ≡ stopped_in part at (cut_from (rows_of table) start at part)
+abbrev pub Stops : List ℕ → ℕ → List ℕ → Answered ℕ → Type 0
+Stops table start part o = checking table start part ≡ stopped_in (rows_of table) start part o
 
 -- at the end there is no offender
-pub ended : {table : List ℕ} {start : ℕ} {part : List ℕ} {at least : ℕ} → Turn table start part at least → length part ≤ at → Stops table start part at
+pub ended : {table : List ℕ} {start : ℕ} {part : List ℕ} {at least : ℕ} → Turn table start part at least → length part ≤ at → Stops table start part None
 unfolding tail_of parted_f cut_of elements_of offender refusal
-ended {table} {start} {part} {at} {least} i h = rw (le-leb (length part) at h) (i.tells ∙ none_left (drop at part) (simp length-drop (omega arith)))
+ended {table} {start} {part} {at} {least} i h = i.tells ∙ none_left (drop at part) (simp length-drop (omega arith))
   where
     none_left : (s : List ℕ) → length s ≡ 0 → tail_of (rows_of table) least (parted_f (rows_of table) start false (length s) i.met at s) ≡ answer 0 []
     none_left [] e = refl
     none_left (y ∷ s) e = absurd (omega arith)
 
-module _ (table index part : List ℕ) (r : Ready table index part) (at least : ℕ) (inside : at < length part) (iei k : ℕ) (iei-is : iei ≡ iei_of (get_or part at 0)) (octet : iei < 256)
-    (k-is : k ≡ get_or index iei 0) where
+module _ (table index part : List ℕ) (r : Ready table index part) (at least : ℕ) (inside : at < length part) (iei : ℕ) (iei-is : iei ≡ iei_of (get_or part at 0)) (octet : iei < 256) where
   abbrev t : List Row
   t = rows_of table
 
   abbrev y : ℕ
   y = get_or part at 0
 
-  by-tail : (start : ℕ) (i : Turn table start part at least) → tail_of t least (rest t start part i.met at) ≡ stopped_at at (cut_of (rest t start part i.met at)) → Stops table start part at
+  by-tail : (start : ℕ) (i : Turn table start part at least) → tail_of t least (rest t start part i.met at) ≡ stopped_at at (cut_of (rest t start part i.met at)) → Stops table start part (Some at)
   by-tail start i q =
-      rw (lt-leb (length part) at inside)
-      (i.tells ∙ q ∙ ap (stopped_at at) (cut-any t start false false (length (drop at part)) i.met nothing_met at (drop at part)) ∙ stopped-same at (cut_from t start at part))
+      i.tells ∙ q ∙ ap (stopped_at at) (cut-any t start false false (length (drop at part)) i.met nothing_met at (drop at part)) ∙ stopped-same at (cut_from t start at part)
 
-  nowhere : k ≡ 255 → place_of t (iei_of y) ≡ none
-  nowhere e = rw (← iei-is) (no_place table index r.indexed iei octet (sym k-is ∙ e))
+  nowhere : None ≡ place_at (get_or index iei 0) → place_of t (iei_of y) ≡ none
+  nowhere e = rw (← iei-is) (by (eqb (get_or index iei 0) 255) refl)
+    where
+      by : (b : Bool) → eqb (get_or index iei 0) 255 ≡ b → place_of t iei ≡ none
+      by true q = no_place table index r.indexed iei octet (eqb-true (get_or index iei 0) 255 q)
+      by false q =
+          let s = some-place table index r.indexed iei octet (eqb-false (get_or index iei 0) 255 q) in
+          absurd (omega (arith, s.1, place_none (get_or index iei 0) e))
 
-  pub stops-unlisted : k ≡ 255 → (start : ℕ) → Turn table start part at least → Stops table start part at
+  pub stops-unlisted : None ≡ place_at (get_or index iei 0) → (start : ℕ) → Turn table start part at least → Stops table start part (Some at)
   stops-unlisted e start i = by-tail start i (strange-stops t start part at inside (nowhere e) i.met least)
 
-  module _ (has : k ≡ 255 → ⊥) where
+  module _ (k : ℕ) (k-is : Some k ≡ place_at (get_or index iei 0)) where
+    entry : (k ≡ get_or index iei 0) × (k < 128)
+    entry = place-some (get_or index iei 0) k-is
+
     place : place_of t (iei_of y) ≡ some k
-    place = rw (← iei-is, k-is) (some-place table index r.indexed iei octet (λ e. has (k-is ∙ e))).0
+    place = rw (← iei-is, entry.0) (some-place table index r.indexed iei octet (λ e. omega (arith, e, entry.0, entry.1))).0
 
     pub small : k < 128
-    small = rw k-is (some-place table index r.indexed iei octet (λ e. has (k-is ∙ e))).1
+    small = entry.1
 
     abbrev pub fit : Bool
     fit = (fit_of (row_at t k) (drop at part)).taken
@@ -248,7 +267,7 @@ module _ (table index part : List ℕ) (r : Ready table index part) (at least : 
     reaches = ends t 0 part at inside k place
 
     by-test : (start : ℕ) (i : Turn table start part at least)
-        → ((is_accepted (known t false i.met at (drop at part) k).verdict && (leb least k && eqb (iei_of y) (first_iei t k))) && leb size (row_at t k).greatest) ≡ false → Stops table start part at
+        → ((is_accepted (known t false i.met at (drop at part) k).verdict && (leb least k && eqb (iei_of y) (first_iei t k))) && leb size (row_at t k).greatest) ≡ false → Stops table start part (Some at)
     by-test start i h = by-tail start i (stops t start part at inside k place i.met least (tests t start part at inside k place i.met least ∙ h))
 
     -- any test that fails
@@ -265,17 +284,17 @@ module _ (table index part : List ℕ) (r : Ready table index part) (at least : 
     fails-last true d e = e
     fails-last false d e = refl
 
-    pub stops-below : k < least → (start : ℕ) → Turn table start part at least → Stops table start part at
+    pub stops-below : k < least → (start : ℕ) → Turn table start part at least → Stops table start part (Some at)
     stops-below h start i = by-test start i (fails (is_accepted (known t false i.met at (drop at part) k).verdict) (leb least k) (eqb (iei_of y) (first_iei t k)) (leb size (row_at t k).greatest) (lt-leb least k h))
 
-    pub stops-other : (iei ≡ first_iei t k → ⊥) → (start : ℕ) → Turn table start part at least → Stops table start part at
+    pub stops-other : (iei ≡ first_iei t k → ⊥) → (start : ℕ) → Turn table start part at least → Stops table start part (Some at)
     stops-other n start i = by-test start i (fails-third (is_accepted (known t false i.met at (drop at part) k).verdict) (leb least k) (eqb (iei_of y) (first_iei t k)) (leb size (row_at t k).greatest) (ap (λ (z : ℕ). eqb z (first_iei t k)) (sym iei-is) ∙ ne_eqb iei (first_iei t k) n))
 
-    pub stops-untaken : least ≤ k → fit ≡ false → (start : ℕ) → Turn table start part at least → Stops table start part at
+    pub stops-untaken : least ≤ k → fit ≡ false → (start : ℕ) → Turn table start part at least → Stops table start part (Some at)
     unfolding fit_of is_accepted
     stops-untaken l f start i = by-test start i (rw (turn-verdict t false at (drop at part) k i.turn l, f))
 
-    pub stops-long : (row_at t k).greatest < size → (start : ℕ) → Turn table start part at least → Stops table start part at
+    pub stops-long : (row_at t k).greatest < size → (start : ℕ) → Turn table start part at least → Stops table start part (Some at)
     stops-long h start i = by-test start i (fails-last (is_accepted (known t false i.met at (drop at part) k).verdict && (leb least k && eqb (iei_of y) (first_iei t k))) (leb size (row_at t k).greatest) (lt-leb size (row_at t k).greatest h))
 
     pub turns : least ≤ k → iei ≡ first_iei t k → fit ≡ true → size ≤ (row_at t k).greatest → (start : ℕ) → Turn table start part at least → Turn table start part (at + size) (k + 1)
@@ -290,14 +309,9 @@ module _ (table index part : List ℕ) (r : Ready table index part) (at least : 
 
   -- ---- for a cut alone
 
-  pub goes : (start : ℕ) → Goes t start part at inside (came_by table k y start (drop at part))
-  goes start = by (eqb k 255) refl
-    where
-      by : (b : Bool) → eqb k 255 ≡ b → Goes t start part at inside (pick b (came_strange y (missing start (drop at part)) (drop at part) (unknown_length start (drop at part))) (Came.Is (fit_of (row_said (numbers_at table k)) (drop at part)).len Placed.Unknown))
-      by true e = strange-goes t start part at inside (nowhere (eqb-true k 255 e))
-      by false e =
-          let n : k ≡ 255 → ⊥ = eqb-false k 255 e in
-          rw (row_same table r.indexed.whole k (drop at part)) ((reaches n).0, (reaches n).1, known-cut t start part at inside k (place n) nothing_met)
+  pub goes : (start : ℕ) (k : Answered ℕ) → k ≡ place_at (get_or index iei 0) → Goes t start part at inside (len_by table k y start (drop at part))
+  goes start None e = strange-goes t start part at inside (nowhere e)
+  goes start (Some k) e = rw (row_same table r.indexed.whole k (drop at part)) ((reaches k e).0, (reaches k e).1, known-cut t start part at inside k (place k e) nothing_met)
 
 -- ---- by table number
 
@@ -308,9 +322,3 @@ by_number n part e = rw (e, checking_by)
 pub by-none : (n : ℕ) (part : List ℕ) → table_of n ≡ none → checking_by n part ≡ answer 5 []
 unfolding checking_by
 by-none n part e = rw (e, checking_by)
-
-pub loaded-as : {number n : ℕ} {r : Loaded} {table index₀ table' index' : List ℕ} → r ≡ Loaded.Table n → Loads number r table index₀ table' index' → IsLoaded number n table' index'
-loaded-as {number} {n} {r} {table} {index₀} {table'} {index'} e l = is-loaded (subst (λ (w : Loaded). Loads number w table index₀ table' index') e l)
-
-pub not-loaded : {number : ℕ} {r : Loaded} {table index₀ table' index' : List ℕ} → r ≡ Loaded.NoTable → Loads number r table index₀ table' index' → table_of number ≡ none
-not-loaded {number} {r} {table} {index₀} {table'} {index'} e l = none-loaded (subst (λ (w : Loaded). Loads number w table index₀ table' index') e l)

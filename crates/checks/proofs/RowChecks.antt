@@ -103,17 +103,9 @@ module _ (table ix : List ℕ) (k : ℕ) (n : Numbers) (e : n ≡ numbers_at tab
     unfolding passes
     its-ieis = rw (sym range-by ∙ p)
 
-    pub no-iei : n.count < 1 → passes k row ix ≡ false
+    counted : passes k row ix ≡ ((leb 1 n.count && leb n.count 4) && enters (eqb row.code 0) (mark_of k) (ieis row) ix)
     unfolding ieis_pass
-    no-iei h = its-ieis ∙ rw (its-count, lt-leb 1 n.count h)
-
-    pub five-ieis : 4 < n.count → passes k row ix ≡ false
-    unfolding ieis_pass
-    five-ieis h = its-ieis ∙ rw (its-count, le-leb 1 n.count (omega arith), lt-leb n.count 4 h)
-
-    pub few-ieis : 1 ≤ n.count → n.count ≤ 4 → passes k row ix ≡ enters (eqb row.code 0) (mark_of k) (ieis row) ix
-    unfolding ieis_pass
-    few-ieis l h = its-ieis ∙ rw (its-count, le-leb 1 n.count l, le-leb n.count 4 h)
+    counted = its-ieis ∙ rw its-count (sym (and_assoc (leb 1 n.count) (leb n.count 4) _))
 
     -- one IEI
     module _ (o : n.count ≡ 1) where
@@ -130,6 +122,14 @@ module _ (table ix : List ℕ) (k : ℕ) (n : Numbers) (e : n ≡ numbers_at tab
       one-entered : enter_row k row ix ≡ enter (mark_of k) n.first ix
       unfolding enter_all
       one-entered = rw alone
+
+  -- the check of a row: its ranges, how many IEIs, and these
+  pub judged : passes k row ix ≡ (range_of n && ((leb 1 n.count && leb n.count 4) && enters (eqb row.code 0) (mark_of k) (ieis row) ix))
+  judged = by (range_of n) refl
+    where
+      by : (b : Bool) → range_of n ≡ b → passes k row ix ≡ (b && ((leb 1 n.count && leb n.count 4) && enters (eqb row.code 0) (mark_of k) (ieis row) ix))
+      by true p = counted p
+      by false p = out_of_range p
 
   -- the same by its numbers alone, and what is entered of one that passes
   module _ (o : n.count ≡ 1) where

@@ -1,127 +1,46 @@
-// Copying octets into a lent buffer. The compiler cannot know that the two do not overlap, so a plain loop stays a loop; octets
-// that are taken into a local array first and put out of it then become one move of memory, and the array is gone.
+// Copying octets into a lent buffer. Of few octets, as most values have, the pieces have constant lengths and are moves without a call.
+// Tried: `copy_from_slice` for all. It misses the bar of reading: 0.75 of the Rust's time in place of 0.72, and a registration reject with
+// unknown elements 1.03 in place of 0.93 (docs/DIFFERENCES.md).
 #![tactic(auto)]
 
 ghost use Rattle.std.specs.Prelude.{◌≡◌, ◌+◌, ◌≤◌, length, take};
 ghost use Rattle.definitions.specs.Basic.{over};
 
-// The first n octets, at most 16. Where n is a constant at the call, it is a move of so many.
-fn put_piece(out: &mut [u8], octets: &[u8], n: usize)
-    requires { (n ≤ 16) × (n ≤ length octets.now) × (n ≤ length out.old) }
-    ensures { out.new ≡ over (take n octets.now) out.old }
+// Octets into as much room, at least N and at most twice as many: the first N and the last N, which may overlap.
+fn put_ends<const N: usize>(out: &mut [u8], octets: &[u8])
+    requires { (length out.old ≡ length octets.now) × (N ≤ length octets.now) × (length octets.now ≤ N + N) }
+    ensures { out.new ≡ octets.now }
 {
-    let mut piece = [0u8; 16];
-    let mut i = 0;
-    while i < n {
-        piece[i] = octets[i];
-        i += 1;
+    if let (Some(to), Some(from)) = (out.first_chunk_mut::<N>(), octets.first_chunk::<N>()) {
+        *to = *from;
     }
-    let mut j = 0;
-    while j < n {
-        out[j] = piece[j];
-        j += 1;
+    if let (Some(to), Some(from)) = (out.last_chunk_mut::<N>(), octets.last_chunk::<N>()) {
+        *to = *from;
     }
 }
 
-// At least n octets and at most twice as many, in two moves: the first n and the last n, which may overlap.
-fn put_both(out: &mut [u8], octets: &[u8], n: usize)
-    requires { (n ≤ 16) × (n ≤ length octets.now) × (length octets.now ≤ n + n) × (length octets.now ≤ length out.old) }
-    ensures { out.new ≡ over octets.now out.old }
-{
-    put_piece(out, octets, n);
-    let at = octets.len() - n;
-    put_piece(&mut out[at..], &octets[at..], n);
-}
-
-// At most three octets, as most values have that are copied.
-fn put_few(out: &mut [u8], octets: &[u8])
-    requires { (length octets.now ≤ 3) × (length octets.now ≤ length out.old) }
-    ensures { out.new ≡ over octets.now out.old }
-{
-    if octets.len() >= 2 {
-        put_both(out, octets, 2);
-        return;
-    }
-    if octets.len() >= 1 {
-        put_both(out, octets, 1);
-    }
-}
-
-// At most 32 octets. The fewest are asked for first.
-fn put_short(out: &mut [u8], octets: &[u8])
-    requires { (length octets.now ≤ 32) × (length octets.now ≤ length out.old) }
-    ensures { out.new ≡ over octets.now out.old }
-{
-    let n = octets.len();
-    if n < 4 {
-        put_few(out, octets);
-        return;
-    }
-    if n >= 16 {
-        put_both(out, octets, 16);
-        return;
-    }
-    if n >= 8 {
-        put_both(out, octets, 8);
-        return;
-    }
-    put_both(out, octets, 4);
-}
-
-// At most 65,535 octets, as many as an element has.
-fn put_long(out: &mut [u8], octets: &[u8])
-    requires { (length octets.now ≤ 65535) × (length octets.now ≤ length out.old) }
-    ensures { out.new ≡ over octets.now out.old }
-{
-    let mut held = [0u8; 65535];
-    let mut i = 0;
-    while i < octets.len() {
-        held[i] = octets[i];
-        i += 1;
-    }
-    let mut j = 0;
-    while j < octets.len() {
-        out[j] = held[j];
-        j += 1;
-    }
-}
-
-// Any number of octets.
-fn put_any(out: &mut [u8], octets: &[u8])
-    requires { length octets.now ≤ length out.old }
-    ensures { out.new ≡ over octets.now out.old }
-{
-    let mut i = 0;
-    while i < octets.len() {
-        out[i] = octets[i];
-        i += 1;
-    }
-}
-
-// All octets, into a buffer that has room for them.
+// Octets into as much room. Few octets, as most values have that are copied, are asked for first.
 fn put_all(out: &mut [u8], octets: &[u8])
-    requires { length octets.now ≤ length out.old }
-    ensures { out.new ≡ over octets.now out.old }
+    requires { length out.old ≡ length octets.now }
+    ensures { out.new ≡ octets.now }
 {
-    if octets.len() <= 32 {
-        put_short(out, octets);
-        return;
+    match octets.len() {
+        0 => {}
+        1 => put_ends::<1>(out, octets),
+        2..=3 => put_ends::<2>(out, octets),
+        4..=7 => put_ends::<4>(out, octets),
+        8..=15 => put_ends::<8>(out, octets),
+        16..=32 => put_ends::<16>(out, octets),
+        _ => out.copy_from_slice(octets),
     }
-    if octets.len() <= 65_535 {
-        put_long(out, octets);
-        return;
-    }
-    put_any(out, octets);
 }
 
 // Octets into the front of a lent buffer, as many as there is room for; those behind are as they were.
+// Out of line: put into its callers it makes writing out of sequence a quarter slower.
+#[inline(never)]
 pub fn put_slice(out: &mut [u8], octets: &[u8])
     ensures { out.new ≡ over (take (length out.old) octets.now) out.old }
 {
-    let n = out.len();
-    if octets.len() <= n {
-        put_all(out, &*octets);
-        return;
-    }
-    put_all(out, &octets[..n]);
+    let n = out.len().min(octets.len());
+    put_all(&mut out[..n], &octets[..n]);
 }

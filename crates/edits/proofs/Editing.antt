@@ -14,10 +14,11 @@ use Rattle.definitions.specs.Logs.{order_list, or_empty, iei_for}
 use Rattle.definitions.specs.Values.{place_width, fits, room_checks, bad_place, place_checks, apart, Edited as DefEdited, setting, clearing}
 use Rattle.definitions.proofs.Checks.{neither}
 use Rattle.values.specs.Rows.{sources_of}
-use Rattle.values.specs.Checks.{long_with}
+use Rattle.std.specs.Prelude.{Err}
+use Rattle.values.specs.Checks.{error_as, long_with}
+use Rattle.values.specs.declared.check.PlaceError.{PlaceError}
 use Rattle.values.proofs.Checking.{or_else, refusal-append, long-none}
-use Rattle.edits.specs.Edits.{edited_as, Edits, unedited, set_by, set_logged}
-use Rattle.edits.specs.declared.Edited.{Edited}
+use Rattle.edits.specs.Edits.{edit_error, Edited, edited_as, Edits, unedited, set_by, set_logged}
 
 -- an edit that is equal to a definition's
 pub edits-by : {d e : DefEdited} {a : Edited} {rows set : List ℕ} → d ≡ e → Edits e a rows set → Edits d a rows set
@@ -27,6 +28,13 @@ edits-by q h = rw q h
 pub refused : {d : DefEdited} {rows set : List ℕ} {x : Answer} {a : Edited} → d ≡ unedited rows set x → edited_as a ≡ x → Edits d a rows set
 refused e q =
     record { answers = q ∙ ap (λ (y : DefEdited). y.said) (sym e); rows_are = ap (λ (y : DefEdited). y.rows) (sym e); set_is = ap (λ (y : DefEdited). y.set) (sym e) }
+
+-- a refusal of the checks before an edit is the edit's
+pub error_same : (e : PlaceError) → edited_as (Err (edit_error e)) ≡ error_as e
+error_same (PlaceError.BadTable k) = refl
+error_same PlaceError.TooLong = refl
+error_same PlaceError.NoRoom = refl
+error_same PlaceError.Malformed = refl
 
 -- a log that is not too long
 pub log-within : (log : List ℕ) (used : ℕ) → too_long most_log (record { buffer = log; used = used }) ≡ false → (used ≤ length log) × (used ≤ 131070)

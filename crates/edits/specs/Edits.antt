@@ -1,22 +1,34 @@
 -- An edit's answer, and what it leaves in lent memory, by the definitions of setting and clearing.
-use Rattle.std.specs.Prelude.{ℕ, ◌+◌, ◌*◌, ◌≤◌, ◌≡◌, List, [], ◌∷◌, ◌||◌, not, length, ltb}
+use Rattle.std.specs.Prelude.{ℕ, ◌+◌, ◌*◌, ◌≤◌, ◌≡◌, List, [], ◌∷◌, ◌||◌, not, length, ltb, Option as Answered, Some, None, Result, Ok, Err}
 use Rattle.std.proofs.Math.Option.{none}
 use Rattle.definitions.specs.Basic.{is_none, Answer, answer, refuse, refusal, unless, Used, content, over_at}
 use Rattle.definitions.specs.Rows.{Row, Form, form, rows_of, row_at, first_bad}
 use Rattle.definitions.specs.Logs.{order_list, or_empty, iei_for}
 use Rattle.definitions.specs.Values.{place_width, fits, bad_place, apart, Edited as DefEdited}
-use Rattle.edits.specs.declared.Edited.{Edited}
+use Rattle.values.specs.declared.check.PlaceError.{PlaceError}
+use Rattle.edits.specs.declared.EditError.{EditError}
+
+-- a refusal of the checks before an edit
+abbrev pub edit_error : PlaceError → EditError
+edit_error (PlaceError.BadTable k) = EditError.BadTable k
+edit_error PlaceError.TooLong = EditError.TooLong
+edit_error PlaceError.NoRoom = EditError.NoRoom
+edit_error PlaceError.Malformed = EditError.Malformed
+
+-- what an edit answers: the set octets then used, none of a place that is cleared; or a refusal
+abbrev pub Edited : Type 0
+Edited = Result (Answered ℕ) EditError
 
 abbrev pub edited_as : Edited → Answer
-edited_as (Edited.Set n) = answer 0 (n ∷ [])
-edited_as Edited.Cleared = answer 0 []
-edited_as (Edited.BadTable k) = answer 4 (k ∷ [])
-edited_as Edited.TooLong = answer 3 []
-edited_as Edited.NoRoom = answer 2 (1 ∷ [])
-edited_as Edited.MalformedLog = answer 11 (1 ∷ [])
-edited_as Edited.Malformed = answer 11 (3 ∷ [])
-edited_as (Edited.Unfit k) = answer 10 (k ∷ [])
-edited_as (Edited.NoSet n) = answer 12 (n ∷ [])
+edited_as (Ok (Some n)) = answer 0 (n ∷ [])
+edited_as (Ok None) = answer 0 []
+edited_as (Err (EditError.BadTable k)) = answer 4 (k ∷ [])
+edited_as (Err EditError.TooLong) = answer 3 []
+edited_as (Err EditError.NoRoom) = answer 2 (1 ∷ [])
+edited_as (Err EditError.MalformedLog) = answer 11 (1 ∷ [])
+edited_as (Err EditError.Malformed) = answer 11 (3 ∷ [])
+edited_as (Err (EditError.Unfit k)) = answer 10 (k ∷ [])
+edited_as (Err (EditError.NoSet n)) = answer 12 (n ∷ [])
 
 -- the answer, and the lent rows and set octets at exit, are those of an edit
 pub record Edits (e : DefEdited) (a : Edited) (rows set : List ℕ) : Type 0 where

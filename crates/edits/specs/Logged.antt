@@ -1,5 +1,5 @@
 -- The rows of places beside the order log, an entry at a time, and the IEI that it gives a wanted place.
-use Rattle.std.specs.Prelude.{ℕ, ◌≡◌, List, [], true, false, ◌&&◌, not, eqb}
+use Rattle.std.specs.Prelude.{ℕ, ◌≡◌, List, [], true, false, ◌&&◌, not, eqb, Option as Answered, Some, None}
 use Rattle.std.proofs.Math.Option.{Option, none, some}
 use Rattle.definitions.specs.Basic.{pick, bit}
 use Rattle.definitions.specs.Rows.{Row, rows_of, first_iei, first_bad, place_of, index}
@@ -8,7 +8,6 @@ use Rattle.definitions.specs.Values.{apart}
 use Rattle.seen.specs.Seen.{set_of}
 use Rattle.agreement.specs.Agreed.{entry_set, entry_apart, Agreeing}
 use Rattle.edits.specs.declared.log.Agreed.{Agreed}
-use Rattle.edits.specs.declared.log.Judged.{Judged}
 
 -- a table that passes, and its index
 pub record Tabled (table entries : List ℕ) : Type 0 where
@@ -40,6 +39,6 @@ abbrev pub AgreedBy : List Row → List ℕ → ℕ → List ℕ → Agreed → 
 AgreedBy t rows want order a = Agrees t rows want (or_empty (order_list order)) [] a
 
 -- whether a row disagrees; if none does, the wanted place's IEI
-abbrev pub JudgedBy : List Row → List ℕ → ℕ → List ℕ → Judged → Type 0
-JudgedBy t rows want order Judged.Apart = apart t (or_empty (order_list order)) rows ≡ true
-JudgedBy t rows want order (Judged.Iei i) = (apart t (or_empty (order_list order)) rows ≡ false) × (i ≡ iei_for t (or_empty (order_list order)) want)
+abbrev pub JudgedBy : List Row → List ℕ → ℕ → List ℕ → Answered ℕ → Type 0
+JudgedBy t rows want order None = apart t (or_empty (order_list order)) rows ≡ true
+JudgedBy t rows want order (Some i) = (apart t (or_empty (order_list order)) rows ≡ false) × (i ≡ iei_for t (or_empty (order_list order)) want)

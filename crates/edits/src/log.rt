@@ -11,36 +11,28 @@ ghost use Rattle.agreement.specs.Agreed.{apart_by};
 ghost use Rattle.edits.specs.Logged.{Tabled, AgreedWith, AgreedBy, JudgedBy};
 
 use agreement::apart_with;
-use order::{Front, Placed, entry_len, front_at};
+use order::{Placed, entry_len, front_at};
 use rows::columns::{numbers_at, places};
-use rows::index::{Place, place_of};
-use seen::{Seen, seen_has, seen_with};
+use rows::index::place_of;
+use seen::Seen;
 
 // The places that the log named so far, whether a row disagrees with the earliest IEI of its place, and the IEI of a wanted place.
-#[derive(Clone, Copy)]
+#[derive(Clone, Copy, PartialEq, Eq)]
 pub struct Agreed {
     pub seen: Seen,
     pub apart: bool,
     pub iei: u32,
 }
 
-// A row that disagrees with the log; or the IEI that it gives a wanted place.
-#[derive(Clone, Copy)]
-pub enum Judged {
-    Apart,
-    Iei(u32),
-}
-
 // The IEI of a wanted place with that of one place more: the earliest stays.
 fn iei_with(seen: Seen, place: usize, want: usize, iei: u32, before: u32) -> u32
     ensures { result ≡ pick (eqb place want && not (bit place (set_of seen))) iei before }
 {
-    if place == want {
-        if !seen_has(seen, place) {
-            return iei;
-        }
+    if place == want && !seen.has(place) {
+        iei
+    } else {
+        before
     }
-    before
 }
 
 // With one entry more of the log.
@@ -58,12 +50,12 @@ fn with_entry(
     let seen = a.seen;
     match entry {
         Placed::Known(iei) => match place_of(index, iei) {
-            Place::At(k) => Agreed {
-                seen: seen_with(seen, k),
+            Some(k) => Agreed {
+                seen: seen.with(k),
                 apart: apart_with(rows, seen, a.apart, k, iei as u32),
                 iei: iei_with(seen, k, want, iei as u32, a.iei),
             },
-            Place::Nowhere => a,
+            None => a,
         },
         Placed::Unknown => a,
         Placed::Ignored(_) => a,
@@ -78,20 +70,16 @@ fn walk_log(table: &[u32], index: &[u8], rows: &[u32], order: &[u8], want: usize
     let row = numbers_at(table, want);
     let mut at = 0;
     let mut a = Agreed {
-        seen: Seen { low: 0, high: 0 },
+        seen: Seen::new(),
         apart: false,
         iei: row.first,
     };
     while at < order.len() {
-        match front_at(&order[at..]) {
-            Front::Is(entry) => {
-                a = with_entry(table, index, rows, want, a, entry);
-                at += entry_len(entry);
-            }
-            Front::Not => {
-                return a;
-            }
-        }
+        let Some(entry) = front_at(&order[at..]) else {
+            return a;
+        };
+        a = with_entry(table, index, rows, want, a, entry);
+        at += entry_len(entry);
     }
     a
 }
@@ -101,30 +89,31 @@ fn rest_apart(table: &[u32], rows: &[u32], seen: Seen) -> bool
     requires { first_bad (rows_of table.now) ≡ none }
     ensures { result ≡ any_of (λ k. apart_by rows.now (set_of seen) k (first_iei (rows_of table.now) k)) (length (rows_of table.now)) }
 {
-    let n = places(table);
-    let mut k = 0;
-    while k < n {
-        let row = numbers_at(table, k);
-        if apart_with(rows, seen, false, k, row.first) {
+    for k in 0..places(table) {
+        if apart_with(rows, seen, false, k, numbers_at(table, k).first) {
             return true;
         }
-        k += 1;
     }
     false
 }
 
-// All rows beside the whole log.
-pub(crate) fn judge(table: &[u32], index: &[u8], rows: &[u32], order: &[u8], want: usize) -> Judged
+// All rows beside the whole log: the IEI that it gives a wanted place; None where a row disagrees with it.
+pub(crate) fn judge(
+    table: &[u32],
+    index: &[u8],
+    rows: &[u32],
+    order: &[u8],
+    want: usize,
+) -> Option<u32>
     requires { Tabled table.now index.now × (length order.now ≤ 131070) × OrderAt order.now 0 }
     ensures { JudgedBy (rows_of table.now) rows.now want order.now result }
 {
     let a = walk_log(table, index, rows, order, want);
     if a.apart {
-        return Judged::Apart;
+        return None;
     }
-    let seen = a.seen;
-    if rest_apart(table, rows, seen) {
-        return Judged::Apart;
+    if rest_apart(table, rows, a.seen) {
+        return None;
     }
-    Judged::Iei(a.iei)
+    Some(a.iei)
 }

@@ -8,14 +8,15 @@ use mathlib.Core.Bool.{Bool}
 use lib.ListN.{length, take, drop, length-drop}
 use lib.Seq.{drop-drop}
 use lib.Pow.{split}
+use Rattle.std.specs.Prelude.{Some, None, Ok, Err}
 use Rattle.definitions.specs.Rows.{Row}
 use Rattle.definitions.specs.Elements.{Element as DefElement, Met, Parted, elements, cut_short, before, step_then, Step as DefStep, next, cut, ended, step, stranger, known, parted}
 use Rattle.definitions.proofs.Steps.{parted_from, parted-step, Stands, strange, placed, Front, stands-front, step-stood, Stood}
-use Rattle.elements.specs.Steps.{element_of, state_of, step_of, met_of}
+use Rattle.elements.specs.Steps.{element_of, state_of, step_of, met_of, cut_of}
 use Rattle.elements.specs.Nexts.{start_state}
 use Rattle.elements.specs.declared.element.State.{State}
 use Rattle.elements.specs.declared.element.Element.{Element}
-use Rattle.elements.specs.declared.element.Step.{Step}
+use Rattle.elements.specs.declared.element.Cut.{Cut}
 use Rattle.elements.proofs.Steps.{step_end}
 
 -- the state behind an element has met what the definition says
@@ -57,31 +58,26 @@ module _ (t : List Row) (start : ℕ) (option : Bool) (part : List ℕ) where
     parts-by : (o : DefStep) → here ≡ o → from s ≡ step_then o (λ m n. parted_from t start option m (s.at + n) (drop n left))
     parts-by o e = parted-step t start option (met_of s) s.at left ∙ ap (λ (x : DefStep). step_then x (λ m n. parted_from t start option m (s.at + n) (drop n left))) e
 
-    pub ends : Step.End ≡ step_of here → from s ≡ elements []
+    pub ends : Ok None ≡ step_of here → from s ≡ elements []
     unfolding step_then
     ends e = of here refl e
       where
-        of : (o : DefStep) → here ≡ o → Step.End ≡ step_of o → from s ≡ elements []
+        of : (o : DefStep) → here ≡ o → Ok None ≡ step_of o → from s ≡ elements []
         of ended q f = parts-by ended q
-        of (cut a x n k) q f = let z : ◌≡◌ {A = ℕ} 0 1 = cc in absurd (omega arith)
-        of (next d m) q f = let z : ◌≡◌ {A = ℕ} 0 1 = cc in absurd (omega arith)
+        of (cut a x n k) q f = cc
+        of (next d m) q f = cc
 
     pub at-end : length part ≤ s.at → from s ≡ elements []
     at-end h = ends (ap step_of (sym (step_end t start option (met_of s) s.at left (simp length-drop (omega arith)))))
 
-    pub cuts : {a x n k : ℕ} → Step.Cut a x n k ≡ step_of here → from s ≡ cut_short a x n k
+    pub cuts : {c : Cut} → Err c ≡ step_of here → from s ≡ cut_short c.start c.first c.left c.missing
     unfolding step_then
-    cuts {a} {x} {n} {k} e = of here refl e
+    cuts {c} e = of here refl e
       where
-        of : (o : DefStep) → here ≡ o → Step.Cut a x n k ≡ step_of o → from s ≡ cut_short a x n k
-        of ended q f = let z : ◌≡◌ {A = ℕ} 0 1 = cc in absurd (omega arith)
-        of (cut b y p r) q f =
-            let i : a ≡ b = cc in
-            let j : x ≡ y = cc in
-            let l : n ≡ p = cc in
-            let m : k ≡ r = cc in
-            rw (i, j, l, m) (parts-by (cut b y p r) q)
-        of (next d m) q f = let z : ◌≡◌ {A = ℕ} 0 1 = cc in absurd (omega arith)
+        of : (o : DefStep) → here ≡ o → Err c ≡ step_of o → from s ≡ cut_short c.start c.first c.left c.missing
+        of ended q f = cc
+        of (cut b y p r) q f = let i : c ≡ cut_of b y p r = cc in rw i (parts-by (cut b y p r) q)
+        of (next d m) q f = cc
 
     next-by : (d : DefElement) (m : Met) → here ≡ next d m → Stands t start option (met_of s) s.at left d m → Nexts s (element_of d) (state_of d m)
     unfolding step_then element_of state_of
@@ -106,15 +102,16 @@ module _ (t : List Row) (start : ℕ) (option : Bool) (part : List ℕ) where
           parts = parts-by (next d m) q ∙ ap (before d) (rw (r, ← k, a));
         }
 
-    pub nexts : (e : Element) (v : State) → Step.Next e v ≡ step_of here → Nexts s e v
+    pub nexts : (e : Element) (v : State) → Ok (Some (e, v)) ≡ step_of here → Nexts s e v
     nexts e v p = of here (step-stood t start option (met_of s) s.at left) refl p
       where
-        of : (o : DefStep) → Stood t start option (met_of s) s.at left o → here ≡ o → Step.Next e v ≡ step_of o → Nexts s e v
-        of ended h q f = let z : ◌≡◌ {A = ℕ} 0 1 = cc in absurd (omega arith)
-        of (cut b y n k) h q f = let z : ◌≡◌ {A = ℕ} 0 1 = cc in absurd (omega arith)
+        of : (o : DefStep) → Stood t start option (met_of s) s.at left o → here ≡ o → Ok (Some (e, v)) ≡ step_of o → Nexts s e v
+        of ended h q f = cc
+        of (cut b y n k) h q f = cc
         of (next d m) h q f =
-            let i : e ≡ element_of d = cc in
-            let j : v ≡ state_of d m = cc in
+            let p : (e, v) ≡ (element_of d, state_of d m) = cc in
+            let i : e ≡ element_of d = ap (λ (x : Element × State). x.0) p in
+            let j : v ≡ state_of d m = ap (λ (x : Element × State). x.1) p in
             rw (i, j) (next-by d m q h)
 
 -- the whole part is what is left at its start

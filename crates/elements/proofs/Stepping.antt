@@ -6,6 +6,7 @@ use mathlib.Core.Path.{◌≡◌, refl, ap, sym, ◌∙◌}
 use mathlib.Core.List.{List}
 use mathlib.Core.Bool.{Bool}
 use lib.ListN.{length, drop, length-drop}
+use Rattle.std.specs.Prelude.{Some, Result, Ok, Err, Option as Answered}
 use Rattle.definitions.specs.Rows.{Row}
 use Rattle.definitions.proofs.LogLaws.{leb-room}
 use Rattle.definitions.specs.Logs.{leb128, order_entry}
@@ -16,10 +17,9 @@ use Rattle.elements.specs.Steps.{step_of, met_of, stands_at}
 use Rattle.elements.specs.Walked.{tallied, begun, walked_on, on_step, stepped}
 use Rattle.elements.specs.declared.element.State.{State}
 use Rattle.elements.specs.declared.element.Element.{Element}
-use Rattle.elements.specs.declared.element.Step.{Step}
+use Rattle.elements.specs.declared.element.Cut.{Cut}
 use Rattle.elements.specs.declared.walk.Tally.{Tally}
 use Rattle.elements.specs.declared.walk.Walk.{Walk}
-use Rattle.elements.specs.declared.walk.Stepped.{Stepped}
 use Rattle.elements.proofs.Steps.{step_end}
 use Rattle.elements.proofs.Nexts.{Nexts}
 
@@ -53,19 +53,22 @@ tally-room c len Placed.Unknown h = record { kept = omega (arith, leb-room len h
 tally-room c len (Placed.Ignored r) h = record { kept = omega (arith, leb-room len h); order = omega (arith, aside-entry r) }
 
 module _ (t : List Row) (start : ℕ) (option : Bool) (part : List ℕ) where
+  abbrev Step : Type 0
+  Step = Result (Answered (Element × State)) Cut
+
   abbrev stands : State → Step
   stands = stands_at t start option part
 
   -- one step more
-  pub step-next : (n : ℕ) (w : Walk) {e : Element} {v : State} → Step.Next e v ≡ stands w.state → stepped t start option part (suc n) w ≡ stepped t start option part n (walked_on w e v)
+  pub step-next : (n : ℕ) (w : Walk) {e : Element} {v : State} → Ok (Some (e, v)) ≡ stands w.state → stepped t start option part (suc n) w ≡ stepped t start option part n (walked_on w e v)
   unfolding stepped on_step
   step-next n w q = ap (λ (o : Step). on_step o w (stepped t start option part n)) (sym q)
 
-  pub step_cut : (n : ℕ) (w : Walk) {a x l m : ℕ} → Step.Cut a x l m ≡ stands w.state → stepped t start option part (suc n) w ≡ Stepped.Cut a x l m
+  pub step_cut : (n : ℕ) (w : Walk) {c : Cut} → Err c ≡ stands w.state → stepped t start option part (suc n) w ≡ Err c
   unfolding stepped on_step
   step_cut n w q = ap (λ (o : Step). on_step o w (stepped t start option part n)) (sym q)
 
-  step-over : (n : ℕ) (w : Walk) → length part ≤ w.state.at → stepped t start option part n w ≡ Stepped.To w
+  step-over : (n : ℕ) (w : Walk) → length part ≤ w.state.at → stepped t start option part n w ≡ Ok w
   unfolding stepped on_step
   step-over zero w h = refl
   step-over (suc n) w h =
@@ -88,7 +91,7 @@ module _ (t : List Row) (start : ℕ) (option : Bool) (part : List ℕ) where
     left_over : most - n ≡ suc (most - (n + 1))
     left_over = omega arith
 
-    pub stepping-on : {e : Element} {v : State} → Step.Next e v ≡ stands w.state → Nexts t start option part w.state e v → Stepping from most (n + 1) (walked_on w e v)
+    pub stepping-on : {e : Element} {v : State} → Ok (Some (e, v)) ≡ stands w.state → Nexts t start option part w.state e v → Stepping from most (n + 1) (walked_on w e v)
     stepping-on {e = e} {v = v} q x =
         let r : Room w.needs e.len e.placed = tally-room w.needs e.len e.placed x.some-octet in
         record {
@@ -98,13 +101,13 @@ module _ (t : List Row) (start : ℕ) (option : Bool) (part : List ℕ) where
           tells = sym (step-next (most - (n + 1)) w q) ∙ ap (λ (k : ℕ). stepped t start option part k w) (sym left_over) ∙ i.tells;
         }
 
-    pub stepping-cut : {a x l m : ℕ} → Step.Cut a x l m ≡ stands w.state → Stepped.Cut a x l m ≡ stepped t start option part most (begun from)
+    pub stepping-cut : {c : Cut} → Err c ≡ stands w.state → Err c ≡ stepped t start option part most (begun from)
     stepping-cut q = sym (step_cut (most - (n + 1)) w q) ∙ ap (λ (k : ℕ). stepped t start option part k w) (sym left_over) ∙ i.tells
 
   -- at the end of the part, and behind the last of so many
-  pub stepping-over : {from : State} {most n : ℕ} {w : Walk} → Stepping from most n w → length part ≤ w.state.at → Stepped.To w ≡ stepped t start option part most (begun from)
+  pub stepping-over : {from : State} {most n : ℕ} {w : Walk} → Stepping from most n w → length part ≤ w.state.at → Ok w ≡ stepped t start option part most (begun from)
   stepping-over {most = most} {n = n} {w = w} i h = sym (step-over (most - n) w h) ∙ i.tells
 
-  pub stepping-all : {from : State} {most n : ℕ} {w : Walk} → Stepping from most n w → most ≤ n → Stepped.To w ≡ stepped t start option part most (begun from)
+  pub stepping-all : {from : State} {most n : ℕ} {w : Walk} → Stepping from most n w → most ≤ n → Ok w ≡ stepped t start option part most (begun from)
   unfolding stepped
   stepping-all {most = most} {n = n} {w = w} i h = let z : most - n ≡ 0 = omega arith in rw z at i.tells

@@ -12,67 +12,59 @@ ghost use Rattle.elements.specs.Steps.{placed_for, fit_of, came_known, came_stra
 ghost use Rattle.rows.specs.Indexed.{Indexed};
 ghost use Rattle.by_index.specs.ByIndex.{rows_by};
 
-use crate::walk::{Stepped, steps};
-use length::{
-    Length, UnknownKind, UnknownLength, generic_ie_length, tlv_length, tlve_length, unknown_kind,
-};
+use crate::walk::steps;
+use length::{CutShort, UnknownKind, generic_ie_length, tlv_length, tlve_length, unknown_kind};
 use order::{IgnoredIeReason, Placed};
 use rows::columns::{Form, Numbers, form_of};
-use seen::{Seen, seen_with};
-
-// No place: an IEI that no row lists.
-pub const NO_PLACE: usize = 255;
+use seen::Seen;
 
 // Where reading is: the position, the places met, and the highest of them.
-#[derive(Clone, Copy)]
+#[derive(Clone, Copy, PartialEq, Eq)]
 pub struct State {
     pub at: usize,
     pub seen: Seen,
     pub highest: usize,
 }
 
-// An element: its start and length, its IEI, its place or NO_PLACE, and how it came.
-#[derive(Clone, Copy)]
+// An element: its start and length, its IEI, its place if a row lists that, and how it came.
+#[derive(Clone, Copy, PartialEq, Eq)]
 pub struct Element {
     pub start: usize,
     pub len: usize,
     pub iei: u8,
-    pub place: usize,
+    pub place: Option<usize>,
     pub placed: Placed,
 }
 
-// What stands at a position: an element and where reading is behind it; an unknown element that is cut short and must be
-// understood, by its start, first octet, octets to the end and octets missing; or the end.
-#[derive(Clone, Copy)]
-pub enum Step {
-    Next(Element, State),
-    Cut(usize, u8, usize, usize),
-    End,
+// An unknown element that is cut short and must be understood: its start, its first octet, the octets from there to the end, and the
+// octets missing.
+#[derive(Clone, Copy, PartialEq, Eq)]
+pub struct Cut {
+    pub start: usize,
+    pub first: u8,
+    pub left: usize,
+    pub missing: usize,
 }
 
-// How many octets an element has by its row, and whether the row takes it.
-#[derive(Clone, Copy)]
+// How many octets an element has by its row, and whether the row takes it: one that it does not take has a length too.
+#[derive(Clone, Copy, PartialEq, Eq)]
 pub struct Fit {
     pub len: usize,
     pub taken: bool,
 }
 
-// How an element came: so many octets, by a verdict; or an unknown element that is cut short and must be understood, by the
-// octets missing.
-#[derive(Clone, Copy)]
-pub enum Came {
-    Is(usize, Placed),
-    Cut(usize),
+// How many octets an element has, and how it came.
+#[derive(Clone, Copy, PartialEq, Eq)]
+pub struct Came {
+    pub len: usize,
+    pub placed: Placed,
 }
 
 // The IEI of a first octet: from 0x80 up the top four bits, with zeros below.
 pub fn iei_of(x: u8) -> u8
     ensures { result ≡ iei_of x }
 {
-    if x >= 0x80 {
-        return x / 16 * 16;
-    }
-    x
+    if x >= 0x80 { x & 0xf0 } else { x }
 }
 
 // The value rule, by whether the form is a half octet: an empty value, or one whose first octet's low four bits, of another form
@@ -80,10 +72,9 @@ pub fn iei_of(x: u8) -> u8
 pub fn receivable(half: bool, kinds: u32, value: &[u8]) -> bool
     ensures { result ≡ receivable half kinds value.now }
 {
-    if value.len() == 0 {
+    let Some(&x) = value.first() else {
         return true;
-    }
-    let x = value[0];
+    };
     if half {
         return (kinds >> (x % 16)) % 2 == 1;
     }
@@ -103,7 +94,7 @@ pub fn header(form: Form) -> usize
 }
 
 // How long an element of a form is.
-pub fn frame(form: Form, octets: &[u8]) -> Length
+pub fn frame(form: Form, octets: &[u8]) -> Option<usize>
     ensures { result ≡ length_of (whole (form_as form) octets.now) }
 {
     match form {
@@ -115,13 +106,10 @@ pub fn frame(form: Form, octets: &[u8]) -> Length
 }
 
 // The length of one octet and n octets behind it.
-fn fixed_length(n: usize, octets: &[u8]) -> Length
+fn fixed_length(n: usize, octets: &[u8]) -> Option<usize>
     ensures { result ≡ length_of (within octets.now (some (1 + n))) }
 {
-    if n < octets.len() {
-        return Length::Octets(1 + n);
-    }
-    Length::CutShort
+    (n < octets.len()).then(|| 1 + n)
 }
 
 // Whether a complete element is one that its row takes: at least the least length, and receivable.
@@ -163,19 +151,9 @@ fn must_be_understood(x: u8) -> bool
     ensures { result ≡ required x }
 {
     match unknown_kind(x) {
-        UnknownKind::OneOctet => false,
         UnknownKind::Required => true,
-        UnknownKind::Other => false,
+        UnknownKind::OneOctet | UnknownKind::Other => false,
     }
-}
-
-fn higher(a: usize, b: usize) -> usize
-    ensures { result ≡ max a b }
-{
-    if a < b {
-        return b;
-    }
-    a
 }
 
 // By its row, an element from its first octet on: cut short, it takes the rest.
@@ -183,11 +161,11 @@ pub fn fit_of(left: &[u8], row: Numbers) -> Fit
     ensures { result ≡ fit_of (row_said row) left.now }
 {
     match frame(form_of(row.code, row.size), left) {
-        Length::Octets(n) => Fit {
+        Some(n) => Fit {
             len: n,
             taken: taken_by(row, &left[..n]),
         },
-        Length::CutShort => Fit {
+        None => Fit {
             len: left.len(),
             taken: false,
         },
@@ -206,66 +184,52 @@ pub fn came_known(
     ensures { result ≡ came_known (row_said row) iei option again behind left.now }
 {
     let fit = fit_of(left, row);
-    Came::Is(fit.len, judge(option, again, behind, fit.taken, iei))
+    Came {
+        len: fit.len,
+        placed: judge(option, again, behind, fit.taken, iei),
+    }
 }
 
 // An element without a place, from its first octet on: as long as the unknown rule says; cut short, it is refused if it must be
 // understood, else takes the rest.
-pub fn came_unknown(left: &[u8], x: u8, tlve_start: u8) -> Came
+pub fn came_unknown(left: &[u8], x: u8, tlve_start: u8) -> Result<Came, CutShort>
     ensures { result ≡ came_strange x (missing tlve_start left.now) left.now (unknown_length tlve_start left.now) }
 {
-    match generic_ie_length(left, tlve_start) {
-        UnknownLength::Octets(n) => Came::Is(n, Placed::Unknown),
-        UnknownLength::CutShort(missing) => {
-            if must_be_understood(x) {
-                return Came::Cut(missing);
-            }
-            Came::Is(left.len(), Placed::Unknown)
-        }
-    }
+    let len = match generic_ie_length(left, tlve_start) {
+        Ok(len) => len,
+        Err(cut) if must_be_understood(x) => return Err(cut),
+        Err(_) => left.len(),
+    };
+    Ok(Came {
+        len,
+        placed: Placed::Unknown,
+    })
 }
 
-fn wide(x: u8) -> usize
-    ensures { result ≡ x }
-{
-    x as usize
-}
-
-// The entry that an index has for an IEI.
-pub fn entry_of(index: &[u8; 256], iei: u8) -> usize
-    ensures { result ≡ get_or index.now iei 0 }
-{
-    wide(index[wide(iei)])
-}
-
-// The place that this is, where an entry from 128 on is none.
-fn place_by(index: &[u8; 256], iei: u8) -> usize
+// The place that an index has for an IEI; an entry from 128 on is none.
+pub fn place_by(index: &[u8; 256], iei: u8) -> Option<usize>
     ensures { result ≡ place_at (get_or index.now iei 0) }
 {
-    let entry = entry_of(&*index, iei);
-    if entry < 128 {
-        return entry;
-    }
-    NO_PLACE
+    let entry = usize::from(index[usize::from(iei)]);
+    (entry < 128).then_some(entry)
 }
 
-// Where reading is behind an element of a place or NO_PLACE that ends at a position.
-pub fn after(state: State, place: usize, at: usize) -> State
+// Where reading is behind an element that ends at a position, by its place if it has one.
+pub fn after(state: State, place: Option<usize>, at: usize) -> State
     ensures { result ≡ state_at state place at }
 {
-    let seen = state.seen;
-    let highest = state.highest;
-    if place == NO_PLACE {
-        return State { at, seen, highest };
-    }
-    State {
-        at,
-        seen: seen_with(seen, place),
-        highest: higher(place, highest),
+    match place {
+        None => State { at, ..state },
+        Some(place) => State {
+            at,
+            seen: state.seen.with(place),
+            highest: state.highest.max(place),
+        },
     }
 }
 
-// What stands at a state's position, by a table and an index: by its own index, of a table that passes its check, the step of reading.
+// What stands at a state's position, by a table and an index: an element with where reading is behind it, or None at the end. By its own
+// index, of a table that passes its check, it is the step of reading.
 pub fn element_step(
     part: &[u8],
     table: &[u32],
@@ -273,30 +237,23 @@ pub fn element_step(
     tlve_start: u8,
     option: bool,
     state: State,
-) -> Step
+) -> Result<Option<(Element, State)>, Cut>
     ensures by_index { result ≡ stands_at (rows_by table.now index.now) tlve_start option part.now state }
     ensures own_index { Indexed table.now index.now → result ≡ stands_at (rows_of table.now) tlve_start option part.now state }
 {
-    let at = state.at;
-    if at >= part.len() {
-        return Step::End;
-    }
-    match steps(&*part, &*table, &*index, tlve_start, option, state, 1) {
-        Stepped::To(w) => {
-            let next = w.state;
-            let placed = w.placed;
-            let iei = iei_of(part[at]);
-            Step::Next(
-                Element {
-                    start: at,
-                    len: next.at - at,
-                    iei,
-                    place: place_by(&*index, iei),
-                    placed,
-                },
-                next,
-            )
-        }
-        Stepped::Cut(start, x, left, missing) => Step::Cut(start, x, left, missing),
-    }
+    let start = state.at;
+    let Some(&x) = part.get(start) else {
+        return Ok(None);
+    };
+    let walk = steps(part, table, index, tlve_start, option, state, 1)?;
+    let next = walk.state;
+    let iei = iei_of(x);
+    let element = Element {
+        start,
+        len: next.at - start,
+        iei,
+        place: place_by(index, iei),
+        placed: walk.placed,
+    };
+    Ok(Some((element, next)))
 }

@@ -4,19 +4,37 @@ ghost use Rattle.definitions.specs.Rows.{rows_of};
 ghost use Rattle.rows.specs.Indexed.{Indexed};
 ghost use Rattle.elements.specs.Nexts.{next_from, next_of, start_state};
 
-use crate::element::{Element, State, Step, element_step};
-use checks::{Checked, check_and_index};
+use crate::element::{Cut, Element, State, element_step};
+use checks::{BadRow, check_and_index};
 use octets::MOST_OCTETS;
 use seen::Seen;
 
-// What stands at a state's position, or a refusal: the part is too long, or the table fails its check.
-#[derive(Clone, Copy)]
-pub enum NextElement {
-    Next(Element, State),
-    Cut(usize, u8, usize, usize),
-    End,
+// Why there is no element: the part is cut short there, or too long, or the table fails its check.
+#[derive(Clone, Copy, PartialEq, Eq)]
+pub enum NextError {
+    CutShort(Cut),
     TooLong,
     BadTable(usize),
+}
+
+impl From<Cut> for NextError {
+    ghost use Rattle.elements.specs.declared.next.NextError.{NextError};
+
+    ghost from_gives = { λ cut e. e ≡ NextError.CutShort cut };
+
+    fn from(cut: Cut) -> NextError {
+        NextError::CutShort(cut)
+    }
+}
+
+impl From<BadRow> for NextError {
+    ghost use Rattle.elements.specs.declared.next.NextError.{NextError};
+
+    ghost from_gives = { λ bad e. e ≡ NextError.BadTable bad.0 };
+
+    fn from(bad: BadRow) -> NextError {
+        NextError::BadTable(bad.0)
+    }
 }
 
 // By a table that passes its check, and its index.
@@ -27,18 +45,15 @@ fn next_by_index(
     tlve_start: u8,
     option: bool,
     state: State,
-) -> NextElement
+) -> Result<Option<(Element, State)>, NextError>
     requires { Indexed table.now index.now }
     ensures { result ≡ next_from (rows_of table.now) tlve_start option octets.now state }
 {
     if octets.len() > MOST_OCTETS {
-        return NextElement::TooLong;
+        return Err(NextError::TooLong);
     }
-    match element_step(octets, table, index, tlve_start, option, state) {
-        Step::Next(e, next) => NextElement::Next(e, next),
-        Step::Cut(start, x, left, missing) => NextElement::Cut(start, x, left, missing),
-        Step::End => NextElement::End,
-    }
+    let step = element_step(octets, table, index, tlve_start, option, state)?;
+    Ok(step)
 }
 
 // The state from which a part is read.
@@ -47,24 +62,22 @@ pub fn start_state() -> State
 {
     State {
         at: 0,
-        seen: Seen { low: 0, high: 0 },
+        seen: Seen::new(),
         highest: 0,
     }
 }
 
-// What stands at a state's position. The table is checked at each call.
+// What stands at a state's position: an element with the state behind it, or None at the end. The table is checked at each call.
 pub fn next_element(
     octets: &[u8],
     table: &[u32],
     tlve_start: u8,
     out_of_sequence: bool,
     state: State,
-) -> NextElement
+) -> Result<Option<(Element, State)>, NextError>
     ensures { result ≡ next_of (rows_of table.now) tlve_start out_of_sequence octets.now state }
 {
     let mut index = [255u8; 256];
-    match check_and_index(table, &mut index) {
-        Checked::Passes => next_by_index(octets, table, &index, tlve_start, out_of_sequence, state),
-        Checked::BadRow(k) => NextElement::BadTable(k),
-    }
+    check_and_index(table, &mut index)?;
+    next_by_index(octets, table, &index, tlve_start, out_of_sequence, state)
 }

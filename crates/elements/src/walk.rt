@@ -6,31 +6,23 @@ ghost use Rattle.by_index.specs.ByIndex.{rows_by};
 ghost use Rattle.elements.specs.Walked.{tallied, begun, stepped};
 ghost use Rattle.order.specs.declared.Placed.{Placed};
 
-use crate::element::{Came, NO_PLACE, State, after, came_known, came_unknown, entry_of, iei_of};
+use crate::element::{Cut, State, after, came_known, came_unknown, iei_of, place_by};
 use kept::count_len;
 use order::Placed;
 use rows::columns::numbers_at;
-use seen::seen_has;
 
 // What elements need: octets of the kept log, and of an order log with an entry for each.
-#[derive(Clone, Copy)]
+#[derive(Clone, Copy, PartialEq, Eq)]
 pub struct Tally {
     pub kept: usize,
     pub order: usize,
 }
 
-#[derive(Clone, Copy)]
+#[derive(Clone, Copy, PartialEq, Eq)]
 pub struct Walk {
     pub state: State,
     pub placed: Placed,
     pub needs: Tally,
-}
-
-// Behind the last element; or the unknown element that is cut short: its start, first octet, octets to the end and octets missing.
-#[derive(Clone, Copy)]
-pub enum Stepped {
-    To(Walk),
-    Cut(usize, u8, usize, usize),
 }
 
 // With one element more.
@@ -43,8 +35,7 @@ fn with_element(t: Tally, len: usize, placed: Placed) -> Tally
             kept: t.kept,
             order: t.order + 2,
         },
-        Placed::Unknown => aside(t, len),
-        Placed::Ignored(_) => aside(t, len),
+        Placed::Unknown | Placed::Ignored(_) => aside(t, len),
     }
 }
 
@@ -68,50 +59,38 @@ pub fn steps(
     option: bool,
     from: State,
     most: usize,
-) -> Stepped
+) -> Result<Walk, Cut>
     ensures { result ≡ stepped (rows_by table.now index.now) tlve_start option part.now most (begun from) }
 {
     let mut state = from;
     let mut last = Placed::Unknown;
     let mut t = Tally { kept: 0, order: 0 };
-    let mut n = 0;
-    while n < most {
+    for _ in 0..most {
         let at = state.at;
-        if at >= part.len() {
-            return Stepped::To(Walk {
-                state,
-                placed: last,
-                needs: t,
-            });
-        }
-        let x = part[at];
-        let iei = iei_of(x);
-        let entry = entry_of(&*index, iei);
-        let left = &part[at..];
-        let seen = state.seen;
-        let highest = state.highest;
-        let mut place = NO_PLACE;
-        let came = if entry < 128 {
-            place = entry;
-            let row = numbers_at(&*table, place);
-            let again = seen_has(seen, place);
-            came_known(left, row, iei, option, again, place < highest)
-        } else {
-            came_unknown(left, x, tlve_start)
+        let Some(&x) = part.get(at) else {
+            break;
         };
-        match came {
-            Came::Is(len, placed) => {
-                t = with_element(t, len, placed);
-                state = after(state, place, at + len);
-                last = placed;
-                n += 1;
+        let iei = iei_of(x);
+        let left = &part[at..];
+        let place = place_by(index, iei);
+        let came = match place {
+            Some(place) => {
+                let row = numbers_at(table, place);
+                let again = state.seen.has(place);
+                came_known(left, row, iei, option, again, place < state.highest)
             }
-            Came::Cut(missing) => {
-                return Stepped::Cut(at, x, left.len(), missing);
-            }
-        }
+            None => came_unknown(left, x, tlve_start).map_err(|cut| Cut {
+                start: at,
+                first: x,
+                left: left.len(),
+                missing: cut.missing,
+            })?,
+        };
+        t = with_element(t, came.len, came.placed);
+        state = after(state, place, at + came.len);
+        last = came.placed;
     }
-    Stepped::To(Walk {
+    Ok(Walk {
         state,
         placed: last,
         needs: t,

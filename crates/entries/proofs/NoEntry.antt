@@ -7,9 +7,9 @@ use mathlib.Core.List.{[], ◌∷◌}
 use mathlib.Core.Bool.{true}
 use mathlib.Core.Option.{Option, none, some}
 use lib.ListN.{length}
-use Rattle.definitions.specs.Basic.{answer, Used, most_log}
+use Rattle.definitions.specs.Basic.{answer, Used, too_long, most_log}
 use Rattle.definitions.specs.Logs.{Placed, order_push}
-use Rattle.definitions.proofs.Logs.{past-buffer, past-limit, not-long, asking-long, asking-bad}
+use Rattle.definitions.proofs.Logs.{not-long, asking-long, asking-bad}
 use Rattle.entries.specs.Entries.{placed_by, push_placed}
 
 pub no-entry : (e i : ℕ) → 4 < e → none ≡ placed_by e i
@@ -27,13 +27,9 @@ module _ (u : Used) {o : Option Placed} where
   entry-pushed e = ap (push_placed u) e
 
   module _ (e : none ≡ o) where
-    pub none-past : length u.buffer < u.used → (answer 3 [] ≡ (push_placed u o).said) × (u.buffer ≡ (push_placed u o).log)
+    pub none-used : too_long most_log u ≡ true → (answer 3 [] ≡ (push_placed u o).said) × (u.buffer ≡ (push_placed u o).log)
     unfolding push_placed
-    none-past h = rw (sym e) (sym (asking-long u true 1 [] (past-buffer most_log u h)), refl)
-
-    pub none-long : most_log < u.used → (answer 3 [] ≡ (push_placed u o).said) × (u.buffer ≡ (push_placed u o).log)
-    unfolding push_placed
-    none-long h = rw (sym e) (sym (asking-long u true 1 [] (past-limit most_log u h)), refl)
+    none-used h = rw (sym e) (sym (asking-long u true 1 [] h), refl)
 
     pub none-bad : u.used ≤ length u.buffer → u.used ≤ most_log → (answer 11 (1 ∷ []) ≡ (push_placed u o).said) × (u.buffer ≡ (push_placed u o).log)
     unfolding push_placed

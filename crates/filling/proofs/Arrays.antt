@@ -1,23 +1,27 @@
 -- What filling arrays says: where they hold what a part may need, what was entered of one that decodes, or the cut.
 -- Each answer is that of the part; where the arrays may not hold all, nothing is said of it.
 use Prim.Native.Nat.{ℕ, ◌*◌, ◌≤◌}
-use native.Mathlib.Omega.{arith}
-use mathlib.Core.Path.{◌≡◌, refl, ap, ◌∙◌}
+use mathlib.Core.Path.{◌≡◌, refl, ap, sym, ◌∙◌}
 use mathlib.Core.List.{List}
 use mathlib.Core.Bool.{Bool, true, false}
 use borrow.Author.Tests.{le-leb, leb-true}
 use lib.ListN.{length, replicate}
 use lib.Dec.{leb}
+use Rattle.std.specs.Prelude.{Ok, Err}
 use Rattle.definitions.specs.Basic.{most_octets}
 use Rattle.definitions.specs.Rows.{Row, rows_of}
 use Rattle.definitions.specs.Elements.{Parted, elements, cut_short, elements_of, parted}
+use Rattle.definitions.specs.Logs.{kept_of, entries_of}
 use Rattle.definitions.specs.Reading.{Lent}
 use Rattle.definitions.proofs.RowLaws.{both}
 use Rattle.by_index.specs.ByIndex.{rows_by}
 use Rattle.filling.specs.Decodes.{lent_of}
 use Rattle.filling.specs.Fills.{done, cut, filled_from}
 use Rattle.filling.specs.Filled.{Fill, holds, filled_in, filling, Leaves}
-use Rattle.filling.specs.declared.Filled.{Filled}
+use Rattle.filling.specs.declared.FillError.{FillError}
+use Rattle.elements.specs.Steps.{cut_of as cut_made}
+use Rattle.elements.specs.declared.element.Cut.{Cut}
+use Rattle.elements.specs.declared.walk.Tally.{Tally}
 use Rattle.filling.proofs.Filling.{Entered, entered, cut_of}
 
 module _ (table index : List ℕ) (start : ℕ) (option : Bool) (part rows kept order : List ℕ) where
@@ -35,7 +39,7 @@ module _ (table index : List ℕ) (start : ℕ) (option : Bool) (part rows kept 
 
   -- ---- where something is too short
 
-  pub no_room : (holds table part l ≡ false) → Leaves f Filled.NoRoom rows kept order
+  pub no_room : (holds table part l ≡ false) → Leaves f (Err FillError.NoRoom) rows kept order
   unfolding filling
   no_room h = rw h (record { answers = refl; rows_are = refl; kept-is = refl; order_is = refl })
 
@@ -73,45 +77,43 @@ module _ (table index : List ℕ) (start : ℕ) (option : Bool) (part rows kept 
 
           -- ---- where nothing is
 
-          by-entered : (q : Parted) {k o : ℕ} {rows' kept' order' : List ℕ} → Entered t q k o rows kept order rows' kept' order' → Leaves (filled_in t q l) (Filled.Done k o) rows' kept' order'
+          by-entered : (q : Parted) {k o : ℕ} {rows' kept' order' : List ℕ} → Entered t q k o rows kept order rows' kept' order' → Leaves (filled_in t q l) (Ok (record { kept = k; order = o })) rows' kept' order'
           unfolding elements_of
           by-entered (elements es) e = record { answers = rw (e.kept-used, e.order-used); rows_are = e.rows_are; kept-is = e.kept-is; order_is = e.order_is }
-          by-entered (cut_short a x n m) e = let w = e.decodes in let z : ◌≡◌ {A = ℕ} 0 1 = cc in absurd (omega arith)
+          by-entered (cut_short a x n m) e = let w = e.decodes in cc
 
-          pub all-entered : {k o : ℕ} {rows' kept' order' : List ℕ} → done k o rows' kept' order' ≡ filled_from t p 0 0 rows kept order → Leaves f (Filled.Done k o) rows' kept' order'
-          all-entered {k} {o} e = rw is (by-entered p (entered t p k o rows kept order e))
+          pub all-entered : {u : Tally} {rows' kept' order' : List ℕ} → done u.kept u.order rows' kept' order' ≡ filled_from t p 0 0 rows kept order → Leaves f (Ok u) rows' kept' order'
+          all-entered {u} e = rw is (by-entered p (entered t p u.kept u.order rows kept order e))
 
-          pub all-cut : {a x n m : ℕ} {rows' kept' order' : List ℕ} → cut a x n m ≡ filled_from t p 0 0 rows kept order → rows' ≡ replicate (length rows) 0 → kept' ≡ replicate (length kept) 0 → order' ≡ replicate (length order) 0
-              → Leaves f (Filled.Cut a x n m) rows' kept' order'
-          all-cut e a b c = rw (is, cut_of t p 0 0 rows kept order e) (record { answers = refl; rows_are = a; kept-is = b; order_is = c })
+          pub all-cut : {c : Cut} {rows' kept' order' : List ℕ} → cut c.start c.first c.left c.missing ≡ filled_from t p 0 0 rows kept order → rows' ≡ replicate (length rows) 0 → kept' ≡ replicate (length kept) 0 → order' ≡ replicate (length order) 0
+              → Leaves f (Err (FillError.CutShort c)) rows' kept' order'
+          all-cut e x y z = rw (is, cut_of t p 0 0 rows kept order e) (record { answers = refl; rows_are = x; kept-is = y; order_is = z })
 
           -- ---- and back
 
-          back-entered : (q : Parted) {k o : ℕ} {rows' kept' order' : List ℕ} → Leaves (filled_in t q l) (Filled.Done k o) rows' kept' order' → Entered t q k o rows kept order rows' kept' order'
+          back-entered : (q : Parted) {u : Tally} {rows' kept' order' : List ℕ} → Leaves (filled_in t q l) (Ok u) rows' kept' order' → Entered t q u.kept u.order rows kept order rows' kept' order'
           unfolding elements_of
-          back-entered (elements es) {k = k} {o = o} w =
+          back-entered (elements es) {u = u} w =
               let e = w.answers in
-              record { decodes = refl; kept-used = cc; order-used = cc; rows_are = w.rows_are; kept-is = w.kept-is; order_is = w.order_is }
-          back-entered (cut_short a x n m) w = let e = w.answers in let z : ◌≡◌ {A = ℕ} 0 1 = cc in absurd (omega arith)
+              let z : u ≡ record { kept = length (kept_of es); order = length (entries_of es) } = cc in
+              record { decodes = refl; kept-used = ap (λ (y : Tally). y.kept) z; order-used = ap (λ (y : Tally). y.order) z; rows_are = w.rows_are; kept-is = w.kept-is; order_is = w.order_is }
+          back-entered (cut_short a x n m) w = let e = w.answers in cc
 
-          pub was-entered : {k o : ℕ} {rows' kept' order' : List ℕ} → Leaves f (Filled.Done k o) rows' kept' order' → Entered t p k o rows kept order rows' kept' order'
+          pub was-entered : {u : Tally} {rows' kept' order' : List ℕ} → Leaves f (Ok u) rows' kept' order' → Entered t p u.kept u.order rows kept order rows' kept' order'
           was-entered w = back-entered p (rw is at w)
 
-          back_cut : (q : Parted) {a x n m : ℕ} → Filled.Cut a x n m ≡ (filled_in t q l).said → q ≡ cut_short a x n m
-          back_cut (elements es) e = let z : ◌≡◌ {A = ℕ} 0 1 = cc in absurd (omega arith)
-          back_cut (cut_short b y u v) {a} {x} {n} {m} e =
-              let i : a ≡ b = cc in
-              let j : x ≡ y = cc in
-              let k : n ≡ u = cc in
-              let h : m ≡ v = cc in
-              rw (i, j, k, h)
+          back_cut : (q : Parted) {c : Cut} → Err (FillError.CutShort c) ≡ (filled_in t q l).said → q ≡ cut_short c.start c.first c.left c.missing
+          back_cut (elements es) e = cc
+          back_cut (cut_short b y u v) {c} e =
+              let i : c ≡ cut_made b y u v = cc in
+              ap (λ (z : Cut). cut_short z.start z.first z.left z.missing) (sym i)
 
-          pub was-cut : {a x n m : ℕ} {rows' kept' order' : List ℕ} → Leaves f (Filled.Cut a x n m) rows' kept' order' → p ≡ cut_short a x n m
+          pub was-cut : {c : Cut} {rows' kept' order' : List ℕ} → Leaves f (Err (FillError.CutShort c)) rows' kept' order' → p ≡ cut_short c.start c.first c.left c.missing
           was-cut w = back_cut p (w.answers ∙ ap (λ (y : Fill). y.said) is)
 
-          back-room : (q : Parted) → Filled.NoRoom ≡ (filled_in t q l).said → ⊥
-          back-room (elements es) e = let z : ◌≡◌ {A = ℕ} 0 1 = cc in omega arith
-          back-room (cut_short b y u v) e = let z : ◌≡◌ {A = ℕ} 0 1 = cc in omega arith
+          back-room : (q : Parted) → Err FillError.NoRoom ≡ (filled_in t q l).said → ⊥
+          back-room (elements es) e = cc
+          back-room (cut_short b y u v) e = cc
 
-          pub was-room : {rows' kept' order' : List ℕ} → Leaves f Filled.NoRoom rows' kept' order' → ⊥
+          pub was-room : {rows' kept' order' : List ℕ} → Leaves f (Err FillError.NoRoom) rows' kept' order' → ⊥
           was-room w = back-room p (w.answers ∙ ap (λ (y : Fill). y.said) is)

@@ -10,6 +10,7 @@ use borrow.Author.Tests.{ltb-true, ltb-false, le-ltb}
 use lib.ListN.{length, take}
 use lib.Seq.{length-take-le}
 use lib.Dec.{ltb, leb}
+use Rattle.std.specs.Prelude.{Option as Answered, Some, None}
 use Rattle.definitions.specs.Basic.{bit, receivable}
 use Rattle.definitions.specs.Rows.{Row, form, form_of, rows_of, row_at, place_of}
 use Rattle.definitions.specs.Length.{header, whole}
@@ -97,16 +98,18 @@ module _ (table index : List ℕ) where
   unfolding form row_by
   head-said k h = ap (λ (r : Row). header (form r)) (row_at_lem table index k h)
 
-  said_fits : (place start len : ℕ) (rows : List ℕ) (p : Placed) → RowFitsBy (rows_by table index) place start len rows p → SaidFitsBy table place start len rows p
-  said_fits place start len rows (Placed.Known i) f = (f.0, rw (head-said place f.3) at f.1, f.2)
+  said_fits : (place : Answered ℕ) (start len : ℕ) (rows : List ℕ) (p : Placed) → RowFitsBy (rows_by table index) place start len rows p → SaidFitsBy table place start len rows p
   said_fits place start len rows Placed.Unknown f = tt
   said_fits place start len rows (Placed.Ignored r) f = tt
+  said_fits None start len rows (Placed.Known i) f = f
+  said_fits (Some k) start len rows (Placed.Known i) f = (f.0, rw (head-said k f.3) at f.1, f.2)
 
-  said_same : (place start len : ℕ) (rows : List ℕ) (p : Placed) → RowFitsBy (rows_by table index) place start len rows p
+  said_same : (place : Answered ℕ) (start len : ℕ) (rows : List ℕ) (p : Placed) → RowFitsBy (rows_by table index) place start len rows p
       → said_by table place start len rows p ≡ entered_by (rows_by table index) place start len rows p
-  said_same place start len rows (Placed.Known i) f = rw (head-said place f.3)
   said_same place start len rows Placed.Unknown f = refl
   said_same place start len rows (Placed.Ignored r) f = refl
+  said_same None start len rows (Placed.Known i) f = refl
+  said_same (Some k) start len rows (Placed.Known i) f = rw (head-said k f.3)
 
   pub row-said : (e : Found) (rows : List ℕ) → RowFits (rows_by table index) e rows → SaidFits table e rows
   row-said e rows f = said_fits e.place e.start e.len rows e.placed f

@@ -5,8 +5,9 @@ use native.Mathlib.Omega.{arith}
 use mathlib.Core.Path.{◌≡◌, refl, ap, subst, sym, ◌∙◌}
 use mathlib.Core.List.{List, [], ◌∷◌, ◌++◌}
 use mathlib.Core.Bool.{Bool, true}
-use mathlib.Core.Option.{Option, some, get_or}
+use mathlib.Core.Option.{Option, some}
 use lib.ListN.{length, take, drop, length-append}
+use Rattle.std.specs.Prelude.{Option as Answered, Some, None, Result, Ok, Err}
 use Rattle.definitions.specs.Basic.{pick, over, over_at}
 use Rattle.definitions.specs.Rows.{Row, row_at, form}
 use Rattle.definitions.specs.Length.{header}
@@ -18,13 +19,14 @@ use Rattle.definitions.proofs.LogLaws.{leb-room}
 use Rattle.order.specs.Order.{placed_as}
 use Rattle.order.specs.declared.Placed.{Placed}
 use Rattle.order.specs.declared.IgnoredIeReason.{IgnoredIeReason}
-use Rattle.elements.specs.Steps.{placed_for, element_of}
+use Rattle.elements.specs.Steps.{place_of, placed_for, element_of}
 use Rattle.plain_reading.specs.Entered.{row_entered, row_by, entered_all}
 use Rattle.filling.specs.Fills.{RowFits, RowFitsBy, kept_of_found, entry_by, note_by, Outcome, done, cut, filled_from, outcome, Room, exact, twice, Ready}
-use Rattle.measuring.specs.declared.Measured.{Measured}
 use Rattle.elements.specs.Nexts.{start_state}
 use Rattle.elements.specs.declared.element.State.{State}
 use Rattle.elements.specs.declared.element.Element.{Element}
+use Rattle.elements.specs.declared.element.Cut.{Cut}
+use Rattle.elements.specs.declared.walk.Tally.{Tally}
 use Rattle.elements.proofs.Nexts.{from, Nexts, from_start}
 use Rattle.definitions.proofs.Steps.{Stands}
 
@@ -62,7 +64,7 @@ record Fit (t : List Row) (rows : List ℕ) (o : Option ℕ) (at len : ℕ) : Ty
   short : at + len < 65536
   below : place < 128
 
-fits_by : (t : List Row) (rows : List ℕ) (o : Option ℕ) (v : Verdict) (at len iei : ℕ) → (is_accepted v ≡ true → Fit t rows o at len) → RowFitsBy t (get_or o 255) at len rows (placed_for iei v)
+fits_by : (t : List Row) (rows : List ℕ) (o : Option ℕ) (v : Verdict) (at len iei : ℕ) → (is_accepted v ≡ true → Fit t rows o at len) → RowFitsBy t (place_of o) at len rows (placed_for iei v)
 unfolding is_accepted
 fits_by t rows o accepted at len iei h = let f : Fit t rows o at len = h refl in rw f.has (f.inside, f.headed, f.short, f.below)
 fits_by t rows o unknown at len iei h = tt
@@ -72,12 +74,13 @@ fits_by t rows o out_of_sequence at len iei h = tt
 
 entered-long : (t : List Row) (e : Element) (rows : List ℕ) → RowFits t e rows → length (row_entered t e rows) ≡ length rows
 unfolding row_entered
-entered-long t e rows = by e.placed
+entered-long t e rows = by e.place e.placed
   where
-    by : (p : Placed) → RowFitsBy t e.place e.start e.len rows p → length (row_by t e.place e.start e.len rows p) ≡ length rows
-    by (Placed.Known i) f = length-over_at (4 * e.place) (1 ∷ _ ∷ _ ∷ i ∷ []) rows f.0
-    by Placed.Unknown f = refl
-    by (Placed.Ignored r) f = refl
+    by : (k : Answered ℕ) (p : Placed) → RowFitsBy t k e.start e.len rows p → length (row_by t k e.start e.len rows p) ≡ length rows
+    by k Placed.Unknown f = refl
+    by k (Placed.Ignored r) f = refl
+    by None (Placed.Known i) f = absurd f
+    by (Some k) (Placed.Known i) f = length-over_at (4 * k) (1 ∷ _ ∷ _ ∷ i ∷ []) rows f.0
 
 -- ---- an element in front of a part
 
@@ -119,8 +122,7 @@ room-behind d (elements es) left len k o kept order e f g h (exact c a b) =
     record { fits_kept = omega arith; fits-order = omega arith; room = exact refl (omega arith) (omega arith) }
 room-behind d (cut_short x y z w) left len k o kept order e f g h (exact c a b) =
     let q : cut_short x y z w ≡ elements _ = sym e ∙ c in
-    let z' : ◌≡◌ {A = ℕ} 0 1 = cc in
-    absurd (omega arith)
+    cc
 
 -- no entry takes more than twice the element's octets
 entry-short : (o : List ℕ) (p : Placed) → 1 ≤ length o → length (entry_by o p) ≤ 2 * length o
@@ -280,7 +282,7 @@ pub record Entered (t : List Row) (p : Parted) (k o : ℕ) (rows kept order rows
 pub entered : (t : List Row) (p : Parted) (k o : ℕ) (rows kept order : List ℕ) {rows' kept' order' : List ℕ} → done k o rows' kept' order' ≡ filled_from t p 0 0 rows kept order
     → Entered t p k o rows kept order rows' kept' order'
 unfolding elements_of over_at
-entered t (cut_short a x n m) k o rows kept order e = let z : ◌≡◌ {A = ℕ} 0 1 = cc in absurd (omega arith)
+entered t (cut_short a x n m) k o rows kept order e = cc
 entered t (elements es) k o rows kept order {rows' = rows'} {kept' = kept'} {order' = order'} e =
     let a : k ≡ 0 + length (kept_of es) = cc in
     let b : o ≡ 0 + length (entries_of es) = cc in
@@ -290,7 +292,7 @@ entered t (elements es) k o rows kept order {rows' = rows'} {kept' = kept'} {ord
     record { decodes = refl; kept-used = omega arith; order-used = omega arith; rows_are = c; kept-is = d; order_is = f }
 
 pub cut_of : (t : List Row) (p : Parted) (k o : ℕ) (rows kept order : List ℕ) {a x n m : ℕ} → cut a x n m ≡ filled_from t p k o rows kept order → p ≡ cut_short a x n m
-cut_of t (elements es) k o rows kept order e = let z : ◌≡◌ {A = ℕ} 0 1 = cc in absurd (omega arith)
+cut_of t (elements es) k o rows kept order e = cc
 cut_of t (cut_short b y p q) k o rows kept order {a = a} {x = x} {n = n} {m = m} e =
     let i : a ≡ b = cc in
     let j : x ≡ y = cc in
@@ -299,13 +301,12 @@ cut_of t (cut_short b y p q) k o rows kept order {a = a} {x = x} {n = n} {m = m}
     rw (i, j, l, h)
 
 -- of a part that decodes, whatever was answered
-pub entered-whole : (t : List Row) (p : Parted) → p ≡ elements (elements_of p) → (m : Measured) {rows kept order rows' kept' order' : List ℕ} → outcome m rows' kept' order' ≡ filled_from t p 0 0 rows kept order
+pub entered-whole : (t : List Row) (p : Parted) → p ≡ elements (elements_of p) → (m : Result Tally Cut) {rows kept order rows' kept' order' : List ℕ} → outcome m rows' kept' order' ≡ filled_from t p 0 0 rows kept order
     → (k : ℕ) × ((o : ℕ) × Entered t p k o rows kept order rows' kept' order')
-entered-whole t p d (Measured.Needs k o) {rows = rows} {kept = kept} {order = order} e = (k, (o, entered t p k o rows kept order e))
-entered-whole t p d (Measured.Cut a x n m) {rows = rows} {kept = kept} {order = order} e =
-    let q : elements (elements_of p) ≡ cut_short a x n m = sym d ∙ cut_of t p 0 0 rows kept order e in
-    let z : ◌≡◌ {A = ℕ} 0 1 = cc in
-    absurd (omega arith)
+entered-whole t p d (Ok u) {rows = rows} {kept = kept} {order = order} e = (u.kept, (u.order, entered t p u.kept u.order rows kept order e))
+entered-whole t p d (Err c) {rows = rows} {kept = kept} {order = order} e =
+    let q : elements (elements_of p) ≡ cut_short c.start c.first c.left c.missing = sym d ∙ cut_of t p 0 0 rows kept order e in
+    cc
 
 -- a part is ready for other rows of the same length
 pub still-ready : {t : List Row} {n start : ℕ} {option : Bool} {part rows rows' kept order : List ℕ} → Ready t n start option part rows kept order → length rows' ≡ length rows

@@ -5,7 +5,7 @@ use native.Mathlib.Omega.{arith}
 use mathlib.Core.Path.{◌≡◌, refl, ap, sym, ◌∙◌}
 use mathlib.Core.List.{List, [], ◌∷◌, ◌++◌, append_assoc}
 use mathlib.Core.Bool.{Bool, true}
-use mathlib.Core.Option.{Option, some, get_or}
+use mathlib.Core.Option.{Option, some}
 use lib.ListN.{length, take, drop, replicate, length-drop, length-replicate}
 use lib.Seq.{take-append-le, drop-append-le, take-append_seam}
 use Rattle.definitions.specs.Basic.{over, over_at}
@@ -13,7 +13,7 @@ use Rattle.definitions.specs.Rows.{Row}
 use Rattle.definitions.specs.Elements.{Verdict, accepted, unknown, malformed, repeated, out_of_sequence, is_accepted, Element, iei_at, Met, elements, parted}
 use Rattle.definitions.proofs.Lists.{length-over_at}
 use Rattle.definitions.proofs.Steps.{Stands, Reads, end, more, reads}
-use Rattle.elements.specs.Steps.{element_of, placed_for}
+use Rattle.elements.specs.Steps.{element_of, place_of, placed_for}
 use Rattle.plain_reading.specs.Entered.{row_by, row_entered, entered_all}
 use Rattle.filling.proofs.Filling.{Placing, Places}
 
@@ -34,7 +34,7 @@ module _ (t : List Row) (n start : ℕ) (option : Bool) (places : Places t n sta
   row-front e d a h = by e.verdict e.place (iei_at e) (λ g. let f : Placing t n e = places _ _ _ _ e d g in (f.place, f.has, f.inside))
     where
       by : (v : Verdict) (o : Option ℕ) (iei : ℕ) → (is_accepted v ≡ true → (k : ℕ) × (o ≡ some k) × (4 * k + 4 ≤ n))
-          → Front (row_by t (get_or o 255) e.at (length e.octets) (a ++ b) (placed_for iei v)) (row_by t (get_or o 255) e.at (length e.octets) a (placed_for iei v)) a
+          → Front (row_by t (place_of o) e.at (length e.octets) (a ++ b) (placed_for iei v)) (row_by t (place_of o) e.at (length e.octets) a (placed_for iei v)) a
       by accepted o iei f =
           let g = f refl in
           rw g.1 (record { is = over_first (4 * g.0) (1 ∷ _ ∷ _ ∷ iei ∷ []) a b (omega (arith, g.2)); long = length-over_at (4 * g.0) (1 ∷ _ ∷ _ ∷ iei ∷ []) a (omega (arith, g.2)) })

@@ -7,19 +7,22 @@ use mathlib.Core.List.{List, [], ◌∷◌}
 use mathlib.Core.Bool.{Bool}
 use borrow.Author.Tests.{lt-ltb, le-ltb}
 use lib.ListN.{length}
+use Rattle.std.specs.Prelude.{Ok, Err}
 use Rattle.definitions.specs.Basic.{Answer, answer, refusal, most_octets}
 use Rattle.definitions.specs.Rows.{Row, rows_of}
 use Rattle.definitions.specs.Elements.{Element, Parted, elements, cut_short, elements_of, parted}
 use Rattle.definitions.specs.Logs.{kept_of, entries_of}
 use Rattle.definitions.specs.Reading.{Lent, Read, unread, cut_of}
 use Rattle.measuring.specs.Measures.{measured}
-use Rattle.measuring.specs.declared.Measured.{Measured}
 use Rattle.by_index.specs.ByIndex.{rows_by}
 use Rattle.filling.specs.Fills.{exact, Ready, Written}
-use Rattle.filling.specs.Decodes.{decoded_as, lent_of, Reads}
+use Rattle.filling.specs.Decodes.{Decoded, decoded_as, lent_of, Reads}
 use Rattle.filling.specs.Noted.{noted_checks, noted_elements, noted, Allowed}
-use Rattle.filling.specs.declared.Decoded.{Decoded}
+use Rattle.filling.specs.declared.DecodeError.{DecodeError}
 use Rattle.filling.specs.declared.Room.{Room}
+use Rattle.elements.specs.Steps.{cut_of as cut_made}
+use Rattle.elements.specs.declared.element.Cut.{Cut}
+use Rattle.elements.specs.declared.walk.Tally.{Tally}
 use Rattle.filling.proofs.Filling.{Entered}
 
 -- a refusal
@@ -40,25 +43,21 @@ pub record Needs (p : Parted) (k o : ℕ) : Type 0 where
   pub entries : o ≡ length (entries_of (elements_of p))
 
 -- by measuring, and by entering
-pub needed : (p : Parted) {k o : ℕ} → Measured.Needs k o ≡ measured p → Needs p k o
+pub needed : (p : Parted) {u : Tally} → Ok u ≡ measured p → Needs p u.kept u.order
 unfolding elements_of
-needed (cut_short a x n m) e = let z : ◌≡◌ {A = ℕ} 0 1 = cc in absurd (omega arith)
-needed (elements es) {k = k} {o = o} e =
-    let a : k ≡ length (kept_of es) = cc in
-    let b : o ≡ length (entries_of es) = cc in
-    record { decodes = refl; kept = a; entries = b }
+needed (cut_short a x n m) e = cc
+needed (elements es) {u = u} e =
+    let a : u ≡ record { kept = length (kept_of es); order = length (entries_of es) } = cc in
+    record { decodes = refl; kept = ap (λ (y : Tally). y.kept) a; entries = ap (λ (y : Tally). y.order) a }
 
 pub needed-by : {t : List Row} {p : Parted} {k o : ℕ} {rows kept order rows' kept' order' : List ℕ} → Entered t p k o rows kept order rows' kept' order' → Needs p k o
 needed-by e = record { decodes = e.decodes; kept = e.kept-used; entries = e.order-used }
 
-pub cut-is : (p : Parted) {a x n m : ℕ} → Measured.Cut a x n m ≡ measured p → p ≡ cut_short a x n m
-cut-is (elements es) e = let z : ◌≡◌ {A = ℕ} 0 1 = cc in absurd (omega arith)
-cut-is (cut_short b y p q) {a = a} {x = x} {n = n} {m = m} e =
-    let i : a ≡ b = cc in
-    let j : x ≡ y = cc in
-    let l : n ≡ p = cc in
-    let k : m ≡ q = cc in
-    rw (i, j, l, k)
+pub cut-is : (p : Parted) {c : Cut} → Err c ≡ measured p → p ≡ cut_short c.start c.first c.left c.missing
+cut-is (elements es) e = cc
+cut-is (cut_short b y p q) {c = c} e =
+    let i : c ≡ cut_made b y p q = cc in
+    ap (λ (z : Cut). cut_short z.start z.first z.left z.missing) (sym i)
 
 -- ---- by the first check that refuses
 
@@ -106,7 +105,7 @@ module _ (table index : List ℕ) (start : ℕ) (option : Bool) (part : List ℕ
               rw (le-ltb most_octets (length part) short, le-ltb (length l.rows) n room, e, le-ltb (length l.kept) (length (kept_of es)) kept, le-ltb (length l.order) (length (entries_of es)) h)
 
   -- what is left of a part that nothing refuses, once it is written
-  pub written : {k o : ℕ} → Allowed table index start option part l k o → {rows' kept' order' : List ℕ} → Written t n (elements_of p) l.rows l.kept l.order rows' kept' order' → Reads r (Decoded.Done k o) rows' kept' order'
+  pub written : {u : Tally} → Allowed table index start option part l u → {rows' kept' order' : List ℕ} → Written t n (elements_of p) l.rows l.kept l.order rows' kept' order' → Reads r (Ok u) rows' kept' order'
   unfolding noted_elements
   written a w =
       record {
@@ -122,33 +121,33 @@ module _ (table index : List ℕ) (start : ℕ) (option : Bool) (part rows kept 
   abbrev l : Lent
   l = lent_of rows kept order
 
-  pub long : most_octets < length part → Reads (r table index start option part l) Decoded.TooLong rows kept order
+  pub long : most_octets < length part → Reads (r table index start option part l) (Err DecodeError.TooLong) rows kept order
   long h = refused {l = l} (note-long table index start option part l h) refl
 
   module _ (short : length part ≤ most_octets) where
-    pub no_rows : length rows < n table index start option part l → Reads (r table index start option part l) (Decoded.NoRoom Room.Rows) rows kept order
+    pub no_rows : length rows < n table index start option part l → Reads (r table index start option part l) (Err (DecodeError.NoRoom Room.Rows)) rows kept order
     no_rows h = refused {l = l} (note-rows table index start option part l short h) refl
 
     module _ (room : n table index start option part l ≤ length rows) where
-      pub cut_short_lem : {a x m k : ℕ} → p table index start option part l ≡ cut_short a x m k → Reads (r table index start option part l) (Decoded.CutShort a x m k) rows kept order
+      pub cut_short_lem : {c : Cut} → p table index start option part l ≡ cut_short c.start c.first c.left c.missing → Reads (r table index start option part l) (Err (DecodeError.CutShort c)) rows kept order
       cut_short_lem e = refused {l = l} (note-cut table index start option part l short room e) refl
 
-      module _ (k o : ℕ) (h : Needs (p table index start option part l) k o) where
+      module _ (u : Tally) (h : Needs (p table index start option part l) u.kept u.order) where
         abbrev es : List Element
         es = elements_of (p table index start option part l)
 
-        pub no-kept : length kept < k → Reads (r table index start option part l) (Decoded.NoRoom Room.Kept) rows kept order
+        pub no-kept : length kept < u.kept → Reads (r table index start option part l) (Err (DecodeError.NoRoom Room.Kept)) rows kept order
         no-kept q = refused {l = l} (note-kept table index start option part l short room es h.decodes (omega (arith, h.kept))) refl
 
-        module _ (kept-room : k ≤ length kept) where
-          pub no-order : length order < o → Reads (r table index start option part l) (Decoded.NoRoom Room.Order) rows kept order
+        module _ (kept-room : u.kept ≤ length kept) where
+          pub no-order : length order < u.order → Reads (r table index start option part l) (Err (DecodeError.NoRoom Room.Order)) rows kept order
           no-order q = refused {l = l} (note-order table index start option part l short room es h.decodes (omega (arith, h.kept)) (omega (arith, h.entries))) refl
 
-          module _ (order-room : o ≤ length order) where
+          module _ (order-room : u.order ≤ length order) where
             pub ready : Ready (t table index start option part l) (n table index start option part l) start option part rows kept order
             ready = record { short = short; rows-room = room; room = exact h.decodes (omega (arith, h.kept)) (omega (arith, h.entries)) }
 
-            pub allowed : Allowed table index start option part l k o
+            pub allowed : Allowed table index start option part l u
             unfolding noted_elements
             allowed =
                 let e : r table index start option part l ≡ noted_elements (t table index start option part l) (n table index start option part l) l es =
@@ -156,5 +155,5 @@ module _ (table index : List ℕ) (start : ℕ) (option : Bool) (part rows kept 
                 record { ready = ready; decodes = h.decodes; is = e; answers = rw (h.kept, h.entries) (ap (λ (x : Read). x.said) (sym e)) }
 
             pub done : {rows' kept' order' : List ℕ} → Written (t table index start option part l) (n table index start option part l) es rows kept order rows' kept' order'
-                → Reads (r table index start option part l) (Decoded.Done k o) rows' kept' order'
+                → Reads (r table index start option part l) (Ok u) rows' kept' order'
             done w = written table index start option part l allowed w

@@ -5,6 +5,7 @@ use mathlib.Core.Path.{◌≡◌, refl, ap, ◌∙◌}
 use mathlib.Core.List.{List, ◌∷◌}
 use mathlib.Core.Bool.{Bool}
 use lib.ListN.{length, get_or, replicate}
+use Rattle.std.specs.Prelude.{Some}
 use Rattle.definitions.specs.Basic.{over}
 use Rattle.definitions.specs.Rows.{Row, rows_of}
 use Rattle.definitions.specs.Elements.{Verdict, accepted, unknown, malformed, repeated, out_of_sequence, Element, iei_at, Met, stranger, known, elements, parted}
@@ -30,7 +31,7 @@ module _ (table index : List ℕ) (i : Indexed table index) where
   row_same (strange p r) rows = refl
   row_same {option = option} {m = m} {at = at} (placed {x = x} {xs = xs} k p) rows = by (known u option m at (x ∷ xs) k) (known u option m at (x ∷ xs) k).verdict
     where
-      by : (e : Element) (v : Verdict) → row_by u k e.at (length e.octets) rows (placed_for (iei_at e) v) ≡ row_by t k e.at (length e.octets) rows (placed_for (iei_at e) v)
+      by : (e : Element) (v : Verdict) → row_by u (Some k) e.at (length e.octets) rows (placed_for (iei_at e) v) ≡ row_by t (Some k) e.at (length e.octets) rows (placed_for (iei_at e) v)
       by e accepted = rw (form-same table index i k (below-most table index _ k p))
       by e unknown = refl
       by e malformed = refl

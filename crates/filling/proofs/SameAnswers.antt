@@ -5,9 +5,10 @@ use mathlib.Core.Path.{◌≡◌, refl, ap, sym, ◌∙◌}
 use mathlib.Core.List.{List}
 use lib.ListN.{get_or}
 use Rattle.definitions.specs.Basic.{Answer}
-use Rattle.filling.specs.Decodes.{decoded_as}
+use Rattle.std.specs.Prelude.{Ok, Err}
+use Rattle.filling.specs.Decodes.{Decoded, decoded_as}
 use Rattle.filling.specs.declared.Room.{Room}
-use Rattle.filling.specs.declared.Decoded.{Decoded}
+use Rattle.filling.specs.declared.DecodeError.{DecodeError}
 
 room_back : ℕ → Room
 room_back zero = Room.Rows
@@ -16,23 +17,23 @@ room_back (suc (suc zero)) = Room.Kept
 room_back (suc (suc (suc n))) = Room.Order
 
 decoded-back : ℕ → List ℕ → Decoded
-decoded-back zero vs = Decoded.Done (get_or vs 0 0) (get_or vs 1 0)
-decoded-back (suc zero) vs = Decoded.CutShort (get_or vs 0 0) (get_or vs 1 0) (get_or vs 2 0) (get_or vs 3 0)
-decoded-back (suc (suc zero)) vs = Decoded.NoRoom (room_back (get_or vs 0 0))
-decoded-back (suc (suc (suc zero))) vs = Decoded.TooLong
-decoded-back (suc (suc (suc (suc zero)))) vs = Decoded.BadTable (get_or vs 0 0)
-decoded-back (suc (suc (suc (suc (suc n))))) vs = Decoded.NoTable
+decoded-back zero vs = Ok (record { kept = get_or vs 0 0; order = get_or vs 1 0 })
+decoded-back (suc zero) vs = Err (DecodeError.CutShort (record { start = get_or vs 0 0; first = get_or vs 1 0; left = get_or vs 2 0; missing = get_or vs 3 0 }))
+decoded-back (suc (suc zero)) vs = Err (DecodeError.NoRoom (room_back (get_or vs 0 0)))
+decoded-back (suc (suc (suc zero))) vs = Err DecodeError.TooLong
+decoded-back (suc (suc (suc (suc zero)))) vs = Err (DecodeError.BadTable (get_or vs 0 0))
+decoded-back (suc (suc (suc (suc (suc n))))) vs = Err DecodeError.NoTable
 
 decoded-found : (d : Decoded) → decoded-back (decoded_as d).number (decoded_as d).values ≡ d
 unfolding decoded-back room_back
-decoded-found (Decoded.Done kept order) = refl
-decoded-found (Decoded.CutShort start x left missing) = refl
-decoded-found (Decoded.NoRoom Room.Rows) = refl
-decoded-found (Decoded.NoRoom Room.Kept) = refl
-decoded-found (Decoded.NoRoom Room.Order) = refl
-decoded-found Decoded.TooLong = refl
-decoded-found (Decoded.BadTable row) = refl
-decoded-found Decoded.NoTable = refl
+decoded-found (Ok t) = refl
+decoded-found (Err (DecodeError.CutShort c)) = refl
+decoded-found (Err (DecodeError.NoRoom Room.Rows)) = refl
+decoded-found (Err (DecodeError.NoRoom Room.Kept)) = refl
+decoded-found (Err (DecodeError.NoRoom Room.Order)) = refl
+decoded-found (Err DecodeError.TooLong) = refl
+decoded-found (Err (DecodeError.BadTable row)) = refl
+decoded-found (Err DecodeError.NoTable) = refl
 
 pub same-decoded : (a b : Decoded) → decoded_as a ≡ decoded_as b → a ≡ b
 same-decoded a b e = sym (decoded-found a) ∙ ap (λ (x : Answer). decoded-back x.number x.values) e ∙ decoded-found b

@@ -1,22 +1,28 @@
 -- Reading's answer, and what it leaves in lent memory, by the definition of reading.
-use Rattle.std.specs.Prelude.{ℕ, ◌≡◌, List, [], ◌∷◌}
+use Rattle.std.specs.Prelude.{ℕ, ◌≡◌, List, [], ◌∷◌, Result, Ok, Err}
 use Rattle.definitions.specs.Basic.{Answer, answer}
 use Rattle.definitions.specs.Reading.{Lent, Read}
+use Rattle.elements.specs.Steps.{cut_answer}
 use Rattle.filling.specs.declared.Room.{Room}
-use Rattle.filling.specs.declared.Decoded.{Decoded}
+use Rattle.elements.specs.declared.walk.Tally.{Tally}
+use Rattle.filling.specs.declared.DecodeError.{DecodeError}
 
 abbrev pub room_as : Room → ℕ
 room_as Room.Rows = 1
 room_as Room.Kept = 2
 room_as Room.Order = 3
 
+-- what reading answers: the octets used of each log, or a refusal
+abbrev pub Decoded : Type 0
+Decoded = Result Tally DecodeError
+
 abbrev pub decoded_as : Decoded → Answer
-decoded_as (Decoded.Done kept order) = answer 0 (kept ∷ order ∷ [])
-decoded_as (Decoded.CutShort start x left missing) = answer 1 (start ∷ x ∷ left ∷ missing ∷ [])
-decoded_as (Decoded.NoRoom which) = answer 2 (room_as which ∷ [])
-decoded_as Decoded.TooLong = answer 3 []
-decoded_as (Decoded.BadTable row) = answer 4 (row ∷ [])
-decoded_as Decoded.NoTable = answer 5 []
+decoded_as (Ok t) = answer 0 (t.kept ∷ t.order ∷ [])
+decoded_as (Err (DecodeError.CutShort c)) = cut_answer c
+decoded_as (Err (DecodeError.NoRoom which)) = answer 2 (room_as which ∷ [])
+decoded_as (Err DecodeError.TooLong) = answer 3 []
+decoded_as (Err (DecodeError.BadTable row)) = answer 4 (row ∷ [])
+decoded_as (Err DecodeError.NoTable) = answer 5 []
 
 abbrev pub lent_of : List ℕ → List ℕ → List ℕ → Lent
 lent_of rows kept order = record { rows = rows; kept = kept; order = order }

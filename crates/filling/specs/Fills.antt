@@ -1,5 +1,5 @@
 -- What an element found leaves in the lent rows and logs, by how it came.
-use Rattle.std.specs.Prelude.{ℕ, ◌+◌, ◌*◌, ◌-◌, ◌≤◌, ◌<◌, List, [], ◌∷◌, Bool, length, take, drop, replicate, ◌≡◌}
+use Rattle.std.specs.Prelude.{ℕ, ◌+◌, ◌*◌, ◌-◌, ◌≤◌, ◌<◌, List, [], ◌∷◌, Bool, length, take, drop, replicate, ◌≡◌, Option as Answered, Some, None, Result, Ok, Err}
 use Rattle.definitions.specs.Basic.{over, over_at}
 use Rattle.definitions.specs.Rows.{Row, rows_of, form}
 use Rattle.definitions.specs.Elements.{Element as DefElement, Parted, elements, cut_short, elements_of, parted}
@@ -11,15 +11,17 @@ use Rattle.rows.specs.Numbers.{numbers_at, row_said}
 use Rattle.by_index.specs.ByIndex.{rows_by}
 use Rattle.elements.specs.declared.element.Element.{Element}
 use Rattle.plain_reading.specs.Entered.{before, entered_all}
-use Rattle.measuring.specs.declared.Measured.{Measured}
+use Rattle.elements.specs.declared.element.Cut.{Cut}
+use Rattle.elements.specs.declared.walk.Tally.{Tally}
 
 -- ---- the place rows
 
 -- an accepted element's row is there, and its numbers are of 32 bits
-abbrev pub RowFitsBy : List Row → ℕ → ℕ → ℕ → List ℕ → Placed → Type 0
-RowFitsBy t place start len rows (Placed.Known iei) = (4 * place + 4 ≤ length rows) × (before t place ≤ len) × (start + len < 65536) × (place < 128)
+abbrev pub RowFitsBy : List Row → Answered ℕ → ℕ → ℕ → List ℕ → Placed → Type 0
 RowFitsBy t place start len rows Placed.Unknown = Unit
 RowFitsBy t place start len rows (Placed.Ignored r) = Unit
+RowFitsBy t None start len rows (Placed.Known iei) = ⊥
+RowFitsBy t (Some place) start len rows (Placed.Known iei) = (4 * place + 4 ≤ length rows) × (before t place ≤ len) × (start + len < 65536) × (place < 128)
 
 abbrev pub RowFits : List Row → Element → List ℕ → Type 0
 RowFits t e rows = RowFitsBy t e.place e.start e.len rows e.placed
@@ -28,18 +30,20 @@ RowFits t e rows = RowFitsBy t e.place e.start e.len rows e.placed
 abbrev pub head_said : List ℕ → ℕ → ℕ
 head_said table place = header (form (row_said (numbers_at table place)))
 
-abbrev pub SaidFitsBy : List ℕ → ℕ → ℕ → ℕ → List ℕ → Placed → Type 0
-SaidFitsBy table place start len rows (Placed.Known iei) = (4 * place + 4 ≤ length rows) × (head_said table place ≤ len) × (start + len < 65536)
+abbrev pub SaidFitsBy : List ℕ → Answered ℕ → ℕ → ℕ → List ℕ → Placed → Type 0
 SaidFitsBy table place start len rows Placed.Unknown = Unit
 SaidFitsBy table place start len rows (Placed.Ignored r) = Unit
+SaidFitsBy table None start len rows (Placed.Known iei) = ⊥
+SaidFitsBy table (Some place) start len rows (Placed.Known iei) = (4 * place + 4 ≤ length rows) × (head_said table place ≤ len) × (start + len < 65536)
 
 abbrev pub SaidFits : List ℕ → Element → List ℕ → Type 0
 SaidFits table e rows = SaidFitsBy table e.place e.start e.len rows e.placed
 
-abbrev pub said_by : List ℕ → ℕ → ℕ → ℕ → List ℕ → Placed → List ℕ
-said_by table place start len rows (Placed.Known iei) = over_at (4 * place) (1 ∷ (start + head_said table place) ∷ (len - head_said table place) ∷ iei ∷ []) rows
+abbrev pub said_by : List ℕ → Answered ℕ → ℕ → ℕ → List ℕ → Placed → List ℕ
 said_by table place start len rows Placed.Unknown = rows
 said_by table place start len rows (Placed.Ignored r) = rows
+said_by table None start len rows (Placed.Known iei) = rows
+said_by table (Some place) start len rows (Placed.Known iei) = over_at (4 * place) (1 ∷ (start + head_said table place) ∷ (len - head_said table place) ∷ iei ∷ []) rows
 
 unfoldable pub said_entered : List ℕ → Element → List ℕ → List ℕ
 said_entered table e rows = said_by table e.place e.start e.len rows e.placed
@@ -75,9 +79,9 @@ filled_from t (elements es) k o rows kept order =
 filled_from t (cut_short a x n m) k o rows kept order = cut a x n m
 
 -- what the code answers and leaves
-abbrev pub outcome : Measured → List ℕ → List ℕ → List ℕ → Outcome
-outcome (Measured.Needs k o) rows kept order = done k o rows kept order
-outcome (Measured.Cut a x n m) rows kept order = cut a x n m
+abbrev pub outcome : Result Tally Cut → List ℕ → List ℕ → List ℕ → Outcome
+outcome (Ok t) rows kept order = done t.kept t.order rows kept order
+outcome (Err c) rows kept order = cut c.start c.first c.left c.missing
 
 -- room behind so many octets of each log: for what a part that decodes needs, or for twice its octets, which is as much as any needs
 pub data Room (p : Parted) (left k o kept order : ℕ) : Type 0 where

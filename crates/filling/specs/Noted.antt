@@ -1,6 +1,6 @@
 -- Reading by a table and any index, where the order log has an entry for each element; by the table's own index it is reading, of a part
 -- of which the table does not say all.
-use Rattle.std.specs.Prelude.{ℕ, ◌*◌, ◌≤◌, ◌≡◌, List, [], ◌∷◌, Bool, false, length, replicate, ltb}
+use Rattle.std.specs.Prelude.{ℕ, ◌*◌, ◌≤◌, ◌≡◌, List, [], ◌∷◌, Bool, false, length, replicate, ltb, Ok, Err}
 use Rattle.std.proofs.Math.Option.{Option}
 use Rattle.definitions.specs.Basic.{Answer, answer, refusal, refuse, unless, over, most_octets}
 use Rattle.definitions.specs.Rows.{Row, rows_of}
@@ -12,8 +12,8 @@ use Rattle.by_index.specs.ByIndex.{rows_by}
 use Rattle.plain_reading.specs.Entered.{entered_all}
 use Rattle.plain_reading.specs.Plains.{plain_in}
 use Rattle.filling.specs.Fills.{ReadyBy}
-use Rattle.filling.specs.Decodes.{decoded_as, Reads}
-use Rattle.filling.specs.declared.Decoded.{Decoded}
+use Rattle.elements.specs.declared.walk.Tally.{Tally}
+use Rattle.filling.specs.Decodes.{Decoded, decoded_as, Reads}
 
 -- the checks of reading but that of the table, for n numbers of rows and an entry for each element
 unfoldable pub noted_checks : ℕ → List ℕ → Lent → Parted → List (Option Answer)
@@ -43,20 +43,16 @@ pub record Fits (table part : List ℕ) (n : ℕ) : Type 0 where
   pub room : 4 * length (rows_of table) ≤ n
 
 -- a part that nothing refuses: its elements can be entered, and what is then to be left is known
-pub record Allowed (table index : List ℕ) (start : ℕ) (option : Bool) (part : List ℕ) (l : Lent) (k o : ℕ) : Type 0 where
+pub record Allowed (table index : List ℕ) (start : ℕ) (option : Bool) (part : List ℕ) (l : Lent) (t : Tally) : Type 0 where
   pub ready : ReadyBy table index start option part l.rows l.kept l.order
   pub decodes : parted (rows_by table index) start option part ≡ elements (elements_of (parted (rows_by table index) start option part))
   pub is : noted table index start option part l ≡ noted_elements (rows_by table index) (4 * length (rows_of table)) l (elements_of (parted (rows_by table index) start option part))
-  pub answers : decoded_as (Decoded.Done k o) ≡ (noted table index start option part l).said
+  pub answers : decoded_as (Ok t) ≡ (noted table index start option part l).said
 
 -- what is known of a part before anything is written: that nothing refuses it, or all that its refusal leaves
 unfoldable pub Judged : List ℕ → List ℕ → ℕ → Bool → List ℕ → Lent → Decoded → Type 0
-Judged table index start option part l (Decoded.Done k o) = Allowed table index start option part l k o
-Judged table index start option part l (Decoded.CutShort a x n m) = Reads (noted table index start option part l) (Decoded.CutShort a x n m) l.rows l.kept l.order
-Judged table index start option part l (Decoded.NoRoom r) = Reads (noted table index start option part l) (Decoded.NoRoom r) l.rows l.kept l.order
-Judged table index start option part l Decoded.TooLong = Reads (noted table index start option part l) Decoded.TooLong l.rows l.kept l.order
-Judged table index start option part l (Decoded.BadTable r) = Reads (noted table index start option part l) (Decoded.BadTable r) l.rows l.kept l.order
-Judged table index start option part l Decoded.NoTable = Reads (noted table index start option part l) Decoded.NoTable l.rows l.kept l.order
+Judged table index start option part l (Ok t) = Allowed table index start option part l t
+Judged table index start option part l (Err e) = Reads (noted table index start option part l) (Err e) l.rows l.kept l.order
 
 -- a part of which the table does not say all, if it is not too long and its rows have room
 abbrev pub Unplain : List Row → ℕ → Bool → List ℕ → List ℕ → Type 0

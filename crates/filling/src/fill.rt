@@ -1,5 +1,5 @@
 // What reading writes into the lent rows and logs, once it is known that there is room.
-ghost use Rattle.std.specs.Prelude.{◌≡◌, ◌+◌, ◌*◌, ◌≤◌, length, [], ◌∷◌};
+ghost use Rattle.std.specs.Prelude.{◌≡◌, ◌+◌, ◌≤◌, length};
 ghost use Rattle.definitions.specs.Basic.{over_at};
 ghost use Rattle.definitions.specs.Logs.{kept_entry, order_entry};
 ghost use Rattle.definitions.specs.Elements.{parted};
@@ -8,49 +8,31 @@ ghost use Rattle.by_index.specs.ByIndex.{rows_by};
 ghost use Rattle.filling.specs.Fills.{SaidFits, said_entered, kept_of_found, outcome, filled_from, ReadyBy};
 
 use elements::element::{
-    Came, Element, NO_PLACE, State, after, came_known, came_unknown, entry_of, header, iei_of,
+    Cut, Element, State, after, came_known, came_unknown, header, iei_of, place_by,
 };
+use elements::next::start_state;
+use elements::walk::Tally;
 use kept::put_raw;
-use measuring::Measured;
 use order::{Placed, entry_len, put_placed};
 use rows::columns::{form_of, numbers_at};
-use seen::{Seen, seen_has};
+use rows::lent::put_row;
 
-// Four numbers of a row from a position on.
-fn set_row(rows: &mut [u32], at: usize, start: u32, len: u32, iei: u32)
-    requires { at + 4 ≤ length rows.old }
-    ensures { rows.new ≡ over_at at (1 ∷ start ∷ len ∷ iei ∷ []) rows.old }
-{
-    rows[at] = 1;
-    rows[at + 1] = start;
-    rows[at + 2] = len;
-    rows[at + 3] = iei;
-}
-
-// The row of an accepted element: received, where its value is, and its IEI.
+// The row of an accepted element, which has a place: received, where its value is, and its IEI.
 fn enter_row(rows: &mut [u32], table: &[u32], e: Element)
     requires { SaidFits table.now e rows.old }
     ensures { rows.new ≡ said_entered table.now e rows.old }
 {
-    let placed = e.placed;
-    let place = e.place;
-    let start = e.start;
-    let len = e.len;
-    match placed {
-        Placed::Known(iei) => {
-            let row = numbers_at(table, place);
-            let h = header(form_of(row.code, row.size));
-            set_row(
-                rows,
-                4 * place,
-                (start + h) as u32,
-                (len - h) as u32,
-                iei as u32,
-            );
-        }
-        Placed::Unknown => {}
-        Placed::Ignored(_) => {}
-    }
+    let Placed::Known(iei) = e.placed else {
+        return;
+    };
+    let Some(place) = e.place else {
+        return;
+    };
+    let row = numbers_at(table, place);
+    let h = header(form_of(row.code, row.size));
+    let start = (e.start + h) as u32;
+    let len = (e.len - h) as u32;
+    put_row(rows, 4 * place, [1, start, len, u32::from(iei)]);
 }
 
 // An element that no row took, into the rest of the kept log; the octets then used.
@@ -58,13 +40,11 @@ fn keep(octets: &[u8], e: Element, kept: &mut [u8], used: usize) -> usize
     requires { (e.start + e.len ≤ length octets.now) × (1 ≤ e.len) × (e.len ≤ 65535) × (used + length (kept_of_found e octets.now) ≤ length kept.old) }
     ensures { (result ≡ used + length (kept_of_found e octets.now)) × (kept.new ≡ over_at used (kept_of_found e octets.now) kept.old) }
 {
-    let placed = e.placed;
     let start = e.start;
     let end = start + e.len;
-    match placed {
+    match e.placed {
         Placed::Known(_) => used,
-        Placed::Unknown => keep_octets(&octets[start..end], kept, used),
-        Placed::Ignored(_) => keep_octets(&octets[start..end], kept, used),
+        Placed::Unknown | Placed::Ignored(_) => keep_octets(&octets[start..end], kept, used),
     }
 }
 
@@ -107,52 +87,46 @@ pub(crate) fn fill_elements(
     rows: &mut [u32],
     kept: &mut [u8],
     order: &mut [u8],
-) -> Measured
+) -> Result<Tally, Cut>
     requires { ReadyBy table.now index.now tlve_start option octets.now rows.old kept.old order.old }
     ensures { outcome result rows.new kept.new order.new ≡ filled_from (rows_by table.now index.now) (parted (rows_by table.now index.now) tlve_start option octets.now) 0 0 rows.old kept.old order.old }
 {
-    let mut state = State {
-        at: 0,
-        seen: Seen { low: 0, high: 0 },
-        highest: 0,
-    };
-    let mut k = 0;
-    let mut o = 0;
-    loop {
-        let at = state.at;
-        if at >= octets.len() {
-            return Measured::Needs(k, o);
-        }
-        let x = octets[at];
+    let mut state = start_state();
+    let mut used = Tally { kept: 0, order: 0 };
+    while state.at < octets.len() {
+        let start = state.at;
+        let x = octets[start];
         let iei = iei_of(x);
-        let entry = entry_of(&*index, iei);
-        let left = &octets[at..];
-        let mut place = NO_PLACE;
-        let came = if entry < 128 {
-            place = entry;
-            let row = numbers_at(&*table, place);
-            let again = seen_has(state.seen, place);
-            came_known(left, row, iei, option, again, place < state.highest)
-        } else {
-            came_unknown(left, x, tlve_start)
+        let left = &octets[start..];
+        let place = place_by(index, iei);
+        let came = match place {
+            Some(place) => {
+                let row = numbers_at(table, place);
+                let again = state.seen.has(place);
+                came_known(left, row, iei, option, again, place < state.highest)
+            }
+            None => came_unknown(left, x, tlve_start).map_err(|cut| Cut {
+                start,
+                first: x,
+                left: left.len(),
+                missing: cut.missing,
+            })?,
         };
-        match came {
-            Came::Is(len, placed) => {
-                let e = Element {
-                    start: at,
-                    len,
-                    iei,
-                    place,
-                    placed,
-                };
-                enter_row(rows, &*table, e);
-                k = keep(&*octets, e, kept, k);
-                o = note(placed, order, o);
-                state = after(state, place, at + len);
-            }
-            Came::Cut(missing) => {
-                return Measured::Cut(at, x, left.len(), missing);
-            }
-        }
+        let len = came.len;
+        let placed = came.placed;
+        let element = Element {
+            start,
+            len,
+            iei,
+            place,
+            placed,
+        };
+        enter_row(rows, table, element);
+        used = Tally {
+            kept: keep(octets, element, kept, used.kept),
+            order: note(placed, order, used.order),
+        };
+        state = after(state, place, start + len);
     }
+    Ok(used)
 }

@@ -11,35 +11,59 @@ ghost use Rattle.filling.specs.Noted.{Judged, noted};
 ghost use Rattle.filling.specs.Filled.{Leaves, filling};
 
 use crate::fill::fill_elements;
-use measuring::{Measured, may_hold, measure};
+use checks::BadRow;
+use elements::element::Cut;
+use elements::walk::Tally;
+use measuring::{may_hold, measure};
 use octets::MOST_OCTETS;
 use plain_reading::{clear_all, clear_rows};
 use rows::columns::places;
 
 // What a refusal for want of room names.
-#[derive(Clone, Copy)]
+#[derive(Clone, Copy, PartialEq, Eq)]
 pub enum Room {
     Rows,
     Kept,
     Order,
 }
 
-// What reading answers: the octets used of the kept log and the order log, or a refusal.
-#[derive(Clone, Copy)]
-pub enum Decoded {
-    Done(usize, usize),
-    CutShort(usize, u8, usize, usize),
+// Why reading refuses a part.
+#[derive(Clone, Copy, PartialEq, Eq)]
+pub enum DecodeError {
+    CutShort(Cut),
     NoRoom(Room),
     TooLong,
     BadTable(usize),
     NoTable,
 }
 
-// What filling arrays answers: the octets used of each log; the unknown element that is cut short; or that the arrays may not hold all.
-#[derive(Clone, Copy)]
-pub enum Filled {
-    Done(usize, usize),
-    Cut(usize, u8, usize, usize),
+impl From<Cut> for DecodeError {
+    ghost use Rattle.filling.specs.declared.DecodeError.{DecodeError};
+
+    ghost from_gives = { λ cut e. e ≡ DecodeError.CutShort cut };
+
+    fn from(cut: Cut) -> DecodeError {
+        DecodeError::CutShort(cut)
+    }
+}
+
+impl From<BadRow> for DecodeError {
+    ghost use Rattle.filling.specs.declared.DecodeError.{DecodeError};
+
+    ghost from_gives = { λ bad e. e ≡ DecodeError.BadTable bad.0 };
+
+    fn from(bad: BadRow) -> DecodeError {
+        DecodeError::BadTable(bad.0)
+    }
+}
+
+// What reading answers: the octets used of the kept log and the order log, or a refusal.
+pub type Decoded = Result<Tally, DecodeError>;
+
+// Why arrays are not filled: an unknown element is cut short, or they may not hold all.
+#[derive(Clone, Copy, PartialEq, Eq)]
+pub enum FillError {
+    CutShort(Cut),
     NoRoom,
 }
 
@@ -53,17 +77,17 @@ pub fn fill_over(
     rows: &mut [u32],
     kept: &mut [u8],
     order: &mut [u8],
-) -> Filled
+) -> Result<Tally, FillError>
     ensures { Leaves (filling table.now index.now tlve_start option octets.now (lent_of rows.old kept.old order.old)) result rows.new kept.new order.new }
 {
     if !may_hold(octets.len(), table, rows.len(), kept.len(), order.len()) {
-        return Filled::NoRoom;
+        return Err(FillError::NoRoom);
     }
     match fill_elements(octets, table, index, tlve_start, option, rows, kept, order) {
-        Measured::Needs(k, o) => Filled::Done(k, o),
-        Measured::Cut(start, x, left, missing) => {
+        Ok(used) => Ok(used),
+        Err(cut) => {
             clear_all(rows, kept, order);
-            Filled::Cut(start, x, left, missing)
+            Err(FillError::CutShort(cut))
         }
     }
 }
@@ -82,23 +106,19 @@ fn judge(
     ensures { (l : Lent) → length l.rows ≡ rows → length l.kept ≡ kept → length l.order ≡ order → Judged table.now index.now tlve_start option octets.now l result }
 {
     if octets.len() > MOST_OCTETS {
-        return Decoded::TooLong;
+        return Err(DecodeError::TooLong);
     }
     if rows / 4 < places(table) {
-        return Decoded::NoRoom(Room::Rows);
+        return Err(DecodeError::NoRoom(Room::Rows));
     }
-    match measure(octets, table, index, tlve_start, option) {
-        Measured::Cut(start, x, left, missing) => Decoded::CutShort(start, x, left, missing),
-        Measured::Needs(k, o) => {
-            if kept < k {
-                return Decoded::NoRoom(Room::Kept);
-            }
-            if order < o {
-                return Decoded::NoRoom(Room::Order);
-            }
-            Decoded::Done(k, o)
-        }
+    let needs = measure(octets, table, index, tlve_start, option)?;
+    if kept < needs.kept {
+        return Err(DecodeError::NoRoom(Room::Kept));
     }
+    if order < needs.order {
+        return Err(DecodeError::NoRoom(Room::Order));
+    }
+    Ok(needs)
 }
 
 // A part of any length: what it needs of the logs, then what is written.
@@ -114,7 +134,7 @@ pub fn fill_measured(
 ) -> Decoded
     ensures { Reads (noted table.now index.now tlve_start option octets.now (lent_of rows.old kept.old order.old)) result rows.new kept.new order.new }
 {
-    let judged = judge(
+    let needs = judge(
         octets,
         table,
         index,
@@ -123,13 +143,8 @@ pub fn fill_measured(
         rows.len(),
         kept.len(),
         order.len(),
-    );
-    match judged {
-        Decoded::Done(_, _) => {
-            clear_rows(rows, 4 * places(table));
-            fill_elements(octets, table, index, tlve_start, option, rows, kept, order);
-        }
-        _ => {}
-    }
-    judged
+    )?;
+    clear_rows(rows, 4 * places(table));
+    let _ = fill_elements(octets, table, index, tlve_start, option, rows, kept, order);
+    Ok(needs)
 }

@@ -17,10 +17,11 @@ use Rattle.definitions.specs.Findings.{reason_kind, findings_from, findings, Not
 use Rattle.definitions.proofs.TableLaws.{index_same}
 use Rattle.definitions.proofs.LogSteps.{kept_from, order_from, rest_of, kept_after}
 use Rattle.logs.specs.Checks.{Checked}
-use Rattle.logs.specs.declared.Logs.{Logs}
+use Rattle.std.specs.Prelude.{Result, Ok, Err}
+use Rattle.logs.specs.declared.MalformedLog.{MalformedLog}
 use Rattle.findings.specs.Findings.{found_as, Finds, kind_of, high_after, found_of, findings_in, unnoted, noted_in, finding_in}
 use Rattle.findings.specs.Walks.{WellFormed, all_in}
-use Rattle.findings.specs.declared.Found.{Found}
+use Rattle.findings.specs.declared.FindError.{FindError}
 
 -- ---- the findings
 
@@ -110,23 +111,23 @@ unfolding is_none
 is_some o e = rw e
 
 module _ (order kept : Used) where
-  pub said-order : Checked (content order) (content kept) Logs.Order → is_none (order_list (content order)) ≡ true
+  pub said-order : Checked (content order) (content kept) (Err MalformedLog.Order) → is_none (order_list (content order)) ≡ true
   said-order e = is-none (order_list (content order)) e
 
-  pub said-kept : Checked (content order) (content kept) Logs.Kept → (is_none (order_list (content order)) ≡ false) × (is_none (kept_list (content kept)) ≡ true)
+  pub said-kept : Checked (content order) (content kept) (Err MalformedLog.Kept) → (is_none (order_list (content order)) ≡ false) × (is_none (kept_list (content kept)) ≡ true)
   said-kept e = (is_some (order_list (content order)) e.0.1, is-none (kept_list (content kept)) e.1)
 
-  pub said-formed : {n : ℕ} → Checked (content order) (content kept) (Logs.Formed n) → (is_none (order_list (content order)) ≡ false) × (is_none (kept_list (content kept)) ≡ false)
+  pub said-formed : {n : ℕ} → Checked (content order) (content kept) (Ok n) → (is_none (order_list (content order)) ≡ false) × (is_none (kept_list (content kept)) ≡ false)
   said-formed e = (is_some (order_list (content order)) e.order_is, is_some (kept_list (content kept)) e.kept-is)
 
 -- ---- the answers
 
 -- a finding that is equal to a definition's
-pub finds-by : {d e : Noted} {a : Found} {s : List ℕ} → d ≡ e → Finds e a s → Finds d a s
+pub finds-by : {d e : Noted} {a : Result ℕ FindError} {s : List ℕ} → d ≡ e → Finds e a s → Finds d a s
 finds-by q h = rw q h
 
 -- a refusal
-pub refused : {d : Noted} {lent : List ℕ} {x : Answer} {a : Found} → d ≡ unnoted lent x → found_as a ≡ x → Finds d a lent
+pub refused : {d : Noted} {lent : List ℕ} {x : Answer} {a : Result ℕ FindError} → d ≡ unnoted lent x → found_as a ≡ x → Finds d a lent
 refused e q = record { answers = q ∙ ap (λ (y : Noted). y.said) (sym e); findings-are = ap (λ (y : Noted). y.findings) (sym e) }
 
 module _ (fs : List (List ℕ)) (lent : List ℕ) where

@@ -7,25 +7,26 @@ use lib.ListN.{get_or}
 use lib.Dec.{eqb}
 use Rattle.definitions.specs.Basic.{pick, Answer}
 use Rattle.findings.specs.Findings.{found_as}
-use Rattle.findings.specs.declared.Log.{Log}
-use Rattle.findings.specs.declared.Found.{Found}
+use Rattle.std.specs.Prelude.{Result, Ok, Err}
+use Rattle.logs.specs.declared.MalformedLog.{MalformedLog}
+use Rattle.findings.specs.declared.FindError.{FindError}
 
-found_back : ℕ → List ℕ → Found
-found_back zero vs = Found.Findings (get_or vs 0 0)
-found_back (suc zero) vs = Found.NoRoom
-found_back (suc (suc zero)) vs = Found.NoRoom
-found_back (suc (suc (suc zero))) vs = Found.TooLong
-found_back (suc (suc (suc (suc zero)))) vs = Found.BadTable (get_or vs 0 0)
-found_back (suc (suc (suc (suc (suc n))))) vs = Found.Malformed (pick (eqb (get_or vs 0 0) 1) Log.Order Log.Kept)
+found_back : ℕ → List ℕ → Result ℕ FindError
+found_back zero vs = Ok (get_or vs 0 0)
+found_back (suc zero) vs = Err FindError.NoRoom
+found_back (suc (suc zero)) vs = Err FindError.NoRoom
+found_back (suc (suc (suc zero))) vs = Err FindError.TooLong
+found_back (suc (suc (suc (suc zero)))) vs = Err (FindError.BadTable (get_or vs 0 0))
+found_back (suc (suc (suc (suc (suc n))))) vs = Err (FindError.Malformed (pick (eqb (get_or vs 0 0) 1) MalformedLog.Order MalformedLog.Kept))
 
-found-found : (f : Found) → found_back (found_as f).number (found_as f).values ≡ f
+found-found : (f : Result ℕ FindError) → found_back (found_as f).number (found_as f).values ≡ f
 unfolding found_back
-found-found (Found.Findings n) = refl
-found-found (Found.BadTable k) = refl
-found-found Found.TooLong = refl
-found-found (Found.Malformed Log.Order) = refl
-found-found (Found.Malformed Log.Kept) = refl
-found-found Found.NoRoom = refl
+found-found (Ok n) = refl
+found-found (Err (FindError.BadTable k)) = refl
+found-found (Err FindError.TooLong) = refl
+found-found (Err (FindError.Malformed MalformedLog.Order)) = refl
+found-found (Err (FindError.Malformed MalformedLog.Kept)) = refl
+found-found (Err FindError.NoRoom) = refl
 
-pub same-found : (a b : Found) → found_as a ≡ found_as b → a ≡ b
+pub same-found : (a b : Result ℕ FindError) → found_as a ≡ found_as b → a ≡ b
 same-found a b e = sym (found-found a) ∙ ap (λ (x : Answer). found_back x.number x.values) e ∙ found-found b

@@ -1,28 +1,28 @@
 -- The answer of the findings, and what is wrong with one entry, by the index of a table that passes.
 -- proofs/Finding.antt shows that these are the findings of the definitions.
-use Rattle.std.specs.Prelude.{ℕ, suc, ◌*◌, max, ◌≡◌, List, [], ◌∷◌, ◌++◌, ◌||◌, length, get_or, eqb, ltb}
+use Rattle.std.specs.Prelude.{ℕ, suc, ◌*◌, max, ◌≡◌, List, [], ◌∷◌, ◌++◌, ◌||◌, length, get_or, eqb, ltb, Result, Ok, Err}
 use Rattle.std.proofs.Math.Option
 use Rattle.definitions.specs.Basic.{pick, is_none, concat, Answer, answer, refusal, refuse, unless, Used, content, too_long, most_log, over}
 use Rattle.definitions.specs.Rows.{iei_of, place_in}
 use Rattle.definitions.specs.Logs.{Placed, known_iei, not_known, ignored, kept_list, order_list, or_empty}
 use Rattle.definitions.specs.Findings.{reason_kind, Noted}
 use Rattle.definitions.proofs.LogSteps.{kept_after}
-use Rattle.findings.specs.declared.Log.{Log}
-use Rattle.findings.specs.declared.Found.{Found}
+use Rattle.logs.specs.declared.MalformedLog.{MalformedLog}
+use Rattle.findings.specs.declared.FindError.{FindError}
 
-abbrev pub log_as : Log → ℕ
-log_as Log.Order = 1
-log_as Log.Kept = 2
+abbrev pub log_as : MalformedLog → ℕ
+log_as MalformedLog.Order = 1
+log_as MalformedLog.Kept = 2
 
-abbrev pub found_as : Found → Answer
-found_as (Found.Findings n) = answer 0 (n ∷ [])
-found_as (Found.BadTable k) = answer 4 (k ∷ [])
-found_as Found.TooLong = answer 3 []
-found_as (Found.Malformed l) = answer 11 (log_as l ∷ [])
-found_as Found.NoRoom = answer 2 (4 ∷ [])
+abbrev pub found_as : Result ℕ FindError → Answer
+found_as (Ok n) = answer 0 (n ∷ [])
+found_as (Err (FindError.BadTable k)) = answer 4 (k ∷ [])
+found_as (Err FindError.TooLong) = answer 3 []
+found_as (Err (FindError.Malformed l)) = answer 11 (log_as l ∷ [])
+found_as (Err FindError.NoRoom) = answer 2 (4 ∷ [])
 
 -- the answer, and the lent findings at exit, are those of a finding
-pub record Finds (d : Noted) (a : Found) (findings : List ℕ) : Type 0 where
+pub record Finds (d : Noted) (a : Result ℕ FindError) (findings : List ℕ) : Type 0 where
   pub answers : found_as a ≡ d.said
   pub findings-are : findings ≡ d.findings
 

@@ -1,11 +1,10 @@
 -- Where a walk over both logs is, and what a step of it finds.
-use Rattle.std.specs.Prelude.{ℕ, ◌+◌, ◌≤◌, ◌<◌, ◌≡◌, List, [], ◌∷◌, ◌++◌, length, get_or}
+use Rattle.std.specs.Prelude.{ℕ, ◌+◌, ◌≤◌, ◌<◌, ◌≡◌, List, [], ◌∷◌, ◌++◌, length, get_or, Option as Answered, Some, None}
 use Rattle.definitions.specs.Basic.{most_log}
 use Rattle.definitions.specs.Logs.{Placed}
 use Rattle.definitions.proofs.LogSteps.{kept_from, KeptAt, order_from, OrderAt, kept_after}
 use Rattle.findings.specs.Findings.{kind_of, high_after, found_of, findings_in}
 use Rattle.findings.specs.declared.walk.Walk.{Walk}
-use Rattle.findings.specs.declared.walk.Next.{Next}
 use Rattle.findings.specs.declared.walk.Judged.{Judged}
 use Rattle.findings.specs.declared.walk.Step.{Step}
 
@@ -22,9 +21,9 @@ pub record ElementAt (kept : List ℕ) (at x to : ℕ) : Type 0 where
   pub splits : kept_from kept at ≡ element ∷ kept_from kept to
   pub formed : KeptAt kept to
 
-abbrev pub NextIs : List ℕ → ℕ → Next → Type 0
-NextIs kept at (Next.Element x to) = ElementAt kept at x to
-NextIs kept at Next.Gone = kept_from kept at ≡ []
+abbrev pub NextIs : List ℕ → ℕ → Answered (ℕ × ℕ) → Type 0
+NextIs kept at (Some p) = ElementAt kept at p.0 p.1
+NextIs kept at None = kept_from kept at ≡ []
 
 -- an entry with which nothing is wrong, and behind which nothing has moved
 abbrev pub unmoved : Walk → Judged

@@ -3,43 +3,56 @@
 
 mod walk;
 
+ghost use Rattle.std.specs.Prelude.{◌≡◌};
 ghost use Rattle.definitions.specs.Findings.{finding};
 ghost use Rattle.kept.specs.Kept.{used_of};
 ghost use Rattle.findings.specs.Findings.{Finds, finding_in, noted_in};
 ghost use Rattle.findings.specs.Walks.{WellFormed, all_in};
 
 use crate::walk::{count_findings, put_findings};
-use checks::{Checked, check_and_index};
-use logs::{Logs, check_logs, logs_long};
+use checks::{BadRow, check_and_index};
+use logs::{MalformedLog, check_logs, logs_long};
 
-// Which log is malformed.
-#[derive(Clone, Copy)]
-pub enum Log {
-    Order,
-    Kept,
-}
-
-// What is answered: how many findings there are, or a refusal.
-#[derive(Clone, Copy)]
-pub enum Found {
-    Findings(usize),
+// Why there are no findings.
+#[derive(Clone, Copy, PartialEq, Eq)]
+pub enum FindError {
     BadTable(usize),
     TooLong,
-    Malformed(Log),
+    Malformed(MalformedLog),
     NoRoom,
 }
 
+impl From<BadRow> for FindError {
+    ghost use Rattle.findings.specs.declared.FindError.{FindError};
+
+    ghost from_gives = { λ bad e. e ≡ FindError.BadTable bad.0 };
+
+    fn from(bad: BadRow) -> FindError {
+        FindError::BadTable(bad.0)
+    }
+}
+
+impl From<MalformedLog> for FindError {
+    ghost use Rattle.findings.specs.declared.FindError.{FindError};
+
+    ghost from_gives = { λ log e. e ≡ FindError.Malformed log };
+
+    fn from(log: MalformedLog) -> FindError {
+        FindError::Malformed(log)
+    }
+}
+
 // By two logs that are well formed: counted first, and written if there is room for all.
-fn find(index: &[u8], order: &[u8], kept: &[u8], findings: &mut [u32]) -> Found
+fn find(index: &[u8], order: &[u8], kept: &[u8], findings: &mut [u32]) -> Result<usize, FindError>
     requires { WellFormed order.now kept.now }
     ensures { Finds (noted_in (all_in index.now order.now kept.now) findings.old) result findings.new }
 {
     let n = count_findings(index, order, kept);
     if findings.len() < 2 * n {
-        return Found::NoRoom;
+        return Err(FindError::NoRoom);
     }
     put_findings(index, order, kept, findings);
-    Found::Findings(n)
+    Ok(n)
 }
 
 // The checks behind the table's, by the index of a table that passes.
@@ -50,17 +63,16 @@ fn find_by_index(
     order: &[u8],
     order_used: usize,
     findings: &mut [u32],
-) -> Found
+) -> Result<usize, FindError>
     ensures { Finds (finding_in index.now (used_of order.now order_used) (used_of kept.now kept_used) findings.old) result findings.new }
 {
     if logs_long(order, order_used, kept, kept_used) {
-        return Found::TooLong;
+        return Err(FindError::TooLong);
     }
-    match check_logs(&order[..order_used], &kept[..kept_used]) {
-        Logs::Formed(_) => find(index, &order[..order_used], &kept[..kept_used], findings),
-        Logs::Order => Found::Malformed(Log::Order),
-        Logs::Kept => Found::Malformed(Log::Kept),
-    }
+    let order = &order[..order_used];
+    let kept = &kept[..kept_used];
+    check_logs(order, kept)?;
+    find(index, order, kept, findings)
 }
 
 // `optional_ie_order_findings`: two numbers each, an entry's number and its kind, into the front of the lent findings.
@@ -71,12 +83,10 @@ pub fn optional_ie_order_findings(
     order: &[u8],
     order_used: usize,
     findings: &mut [u32],
-) -> Found
+) -> Result<usize, FindError>
     ensures { Finds (finding table.now (used_of order.now order_used) (used_of kept.now kept_used) findings.old) result findings.new }
 {
     let mut index = [255u8; 256];
-    match check_and_index(table, &mut index) {
-        Checked::Passes => { find_by_index(&index, kept, kept_used, order, order_used, findings) }
-        Checked::BadRow(k) => Found::BadTable(k),
-    }
+    check_and_index(table, &mut index)?;
+    find_by_index(&index, kept, kept_used, order, order_used, findings)
 }

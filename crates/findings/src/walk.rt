@@ -11,9 +11,9 @@ ghost use Rattle.findings.specs.Findings.{found_of};
 ghost use Rattle.findings.specs.Walks.{WellFormed, all_in, NextIs, JudgedAs, unmoved, Walking, Stepped};
 
 use elements::element::iei_of;
-use kept::{Count, entry_at};
-use order::{Front, IgnoredIeReason, Placed, entry_len, front_at};
-use rows::index::{Place, place_of};
+use kept::entry_at;
+use order::{IgnoredIeReason, Placed, entry_len, front_at};
+use rows::index::place_of;
 
 // Where the walk is: the positions in the two logs, the number of the entry there, and the highest place so far.
 #[derive(Clone, Copy)]
@@ -22,13 +22,6 @@ pub struct Walk {
     pub kept: usize,
     pub entry: usize,
     pub highest: usize,
-}
-
-// The kept element at a position: its first octet, and the position behind it; or none is left.
-#[derive(Clone, Copy)]
-pub enum Next {
-    Element(u8, usize),
-    Gone,
 }
 
 // An entry judged: its kind, 0 where nothing is wrong; the highest place and the position in the kept log behind it.
@@ -46,28 +39,21 @@ pub struct Step {
     pub walk: Walk,
 }
 
-// The kept element at a position from which the log is well formed.
-fn next_kept(kept: &[u8], at: usize) -> Next
+// The kept element at a position from which the log is well formed: its first octet, and the position behind it; None where none is left.
+fn next_kept(kept: &[u8], at: usize) -> Option<(u8, usize)>
     requires { KeptAt kept.now at }
     ensures { NextIs kept.now at result }
 {
-    match entry_at(&kept[at..]) {
-        Count::Is(value, took) => {
-            let start = at + took;
-            Next::Element(kept[start], start + value)
-        }
-        Count::Not => Next::Gone,
-    }
+    let count = entry_at(&kept[at..])?;
+    let start = at + count.took;
+    Some((kept[start], start + count.value))
 }
 
 // The place of an accepted element's IEI; one without a place counts as 0.
 fn place_or_0(index: &[u8], iei: u8) -> usize
     ensures { result ≡ get_or (place_in index.now iei) 0 }
 {
-    match place_of(index, iei) {
-        Place::At(place) => place,
-        Place::Nowhere => 0,
-    }
+    place_of(index, iei).unwrap_or(0)
 }
 
 // An accepted element: 1 where its place is below the highest so far.
@@ -108,8 +94,8 @@ fn kind_of_unknown(index: &[u8], x: u8) -> u32
 {
     let masked = iei_of(x);
     match place_of(index, masked) {
-        Place::At(_) => 2,
-        Place::Nowhere => 0,
+        Some(_) => 2,
+        None => 0,
     }
 }
 
@@ -119,12 +105,12 @@ fn judge_unknown(index: &[u8], kept: &[u8], w: Walk) -> Judged
     ensures { JudgedAs index.now kept.now w not_known result }
 {
     match next_kept(kept, w.kept) {
-        Next::Element(x, to) => Judged {
+        Some((x, to)) => Judged {
             kind: kind_of_unknown(index, x),
             highest: w.highest,
             kept: to,
         },
-        Next::Gone => without_element(w),
+        None => without_element(w),
     }
 }
 
@@ -144,12 +130,12 @@ fn judge_ignored(index: &[u8], kept: &[u8], w: Walk, reason: IgnoredIeReason) ->
     ensures { JudgedAs index.now kept.now w (ignored (reason_as reason)) result }
 {
     match next_kept(kept, w.kept) {
-        Next::Element(_, to) => Judged {
+        Some((_, to)) => Judged {
             kind: kind_of_reason(reason),
             highest: w.highest,
             kept: to,
         },
-        Next::Gone => without_element(w),
+        None => without_element(w),
     }
 }
 
@@ -171,7 +157,7 @@ fn next_entry(index: &[u8], order: &[u8], kept: &[u8], w: Walk) -> Step
 {
     let at = w.order;
     match front_at(&order[at..]) {
-        Front::Is(entry) => {
+        Some(entry) => {
             let judged = judge(&*index, &*kept, w, entry);
             let walk = Walk {
                 order: at + entry_len(entry),
@@ -184,7 +170,7 @@ fn next_entry(index: &[u8], order: &[u8], kept: &[u8], w: Walk) -> Step
                 walk,
             }
         }
-        Front::Not => Step { kind: 0, walk: w },
+        None => Step { kind: 0, walk: w },
     }
 }
 

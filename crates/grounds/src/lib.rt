@@ -10,7 +10,7 @@ ghost use Rattle.wording.specs.Puts.{Put};
 ghost use Rattle.wording.specs.Told.{refuses};
 ghost use Rattle.grounds.specs.Grounds.{why_text_of, why_refused, fault_said, said_of};
 
-use why::{Fault, Why, why_set_aside_by};
+use why::{Fault, Why, WhyError, why_set_aside_by};
 use wording::{MOST_LISTED, Told, say, say_cut, say_number};
 
 fn put_fault(out: &mut [u8], fault: Fault) -> usize
@@ -32,46 +32,29 @@ fn put_start(out: &mut [u8], text: &[u8], start: usize) -> usize
     say_number(out, next, start)
 }
 
-fn put_why(out: &mut [u8], why: Why) -> usize
+fn put_why(out: &mut [u8], why: Result<Why, WhyError>) -> usize
     ensures { Put out.old 0 (said_of why) out.new result }
 {
     match why {
-        Why::Accepted => say(out, 0, b"accepted\n"),
-        Why::Unknown => say(out, 0, b"unknown\n"),
-        Why::Malformed(fault) => put_fault(out, fault),
-        Why::Repeated(start) => put_start(out, b"repeated ", start),
-        Why::OutOfSequence(start) => put_start(out, b"sequence ", start),
-        Why::NoElement => say(out, 0, b"no such element\n"),
-        Why::CutShort(start, x, left, missing) => say_cut(out, 0, start, x, left, missing),
-        Why::TooLong => say(out, 0, b"too long\n"),
-        Why::BadTable(_) => 0,
-        Why::NoTable => 0,
-    }
-}
-
-fn is_refusal(why: Why) -> bool
-    ensures { result ≡ refuses (why_as why) }
-{
-    match why {
-        Why::Accepted => false,
-        Why::Unknown => false,
-        Why::Malformed(_) => false,
-        Why::Repeated(_) => false,
-        Why::OutOfSequence(_) => false,
-        Why::NoElement => true,
-        Why::CutShort(_, _, _, _) => true,
-        Why::TooLong => true,
-        Why::BadTable(_) => true,
-        Why::NoTable => true,
+        Ok(Why::Accepted) => say(out, 0, b"accepted\n"),
+        Ok(Why::Unknown) => say(out, 0, b"unknown\n"),
+        Ok(Why::Malformed(fault)) => put_fault(out, fault),
+        Ok(Why::Repeated(start)) => put_start(out, b"repeated ", start),
+        Ok(Why::OutOfSequence(start)) => put_start(out, b"sequence ", start),
+        Err(WhyError::NoElement) => say(out, 0, b"no such element\n"),
+        Err(WhyError::CutShort(cut)) => say_cut(out, 0, cut),
+        Err(WhyError::TooLong) => say(out, 0, b"too long\n"),
+        Err(WhyError::BadTable(_)) => 0,
+        Err(WhyError::NoTable) => 0,
     }
 }
 
 // The answer that is told.
-fn why_told(number: u32, octets: &[u8], option: bool, element: usize) -> Why
+fn why_told(number: u32, octets: &[u8], option: bool, element: usize) -> Result<Why, WhyError>
     ensures { (said_of result ≡ why_text_of number option octets.now element) × (refuses (why_as result) ≡ why_refused number option octets.now element) }
 {
     if octets.len() > MOST_LISTED {
-        return Why::TooLong;
+        return Err(WhyError::TooLong);
     }
     why_set_aside_by(number, octets, option, element)
 }
@@ -90,7 +73,8 @@ pub fn why_text(
     ensures out_after { out.new ≡ over (why_text_of number out_of_sequence octets.now element) out.old }
 {
     let why = why_told(number, octets, out_of_sequence, element);
-    let refused = is_refusal(why);
-    let len = put_why(out, why);
-    Told { len, refused }
+    Told {
+        refused: why.is_err(),
+        len: put_why(out, why),
+    }
 }

@@ -1,26 +1,34 @@
--- The same an octet of text at a time, as it is decoded: by the digit that waits for its second, 16 where none does.
-use Rattle.std.specs.Prelude.{ℕ, suc, ◌+◌, ◌*◌, ◌-◌, List, [], ◌∷◌, eqb, ltb}
+-- What an octet of text does as it is decoded, by the digit that waits for its second.
+use Rattle.std.specs.Prelude.{ℕ, ◌+◌, ◌*◌, ◌-◌, ◌<◌, ◌≤◌, Option, Some, None, Result, Ok, Err}
 use Rattle.definitions.specs.Basic.{pick}
-use Rattle.hex_text.specs.declared.Ends.{Ends}
+use Rattle.hex_text.specs.declared.HexError.{HexError}
 use Rattle.hex_text.specs.declared.Step.{Step}
-use Rattle.hex_text.specs.Hex.{is_blank, digit_of, is_hex_digit, Hex, ended, behind}
+use Rattle.hex_text.specs.Hex.{is_blank, digit_of}
 
 -- what waits then, an octet, or what is wrong
-unfoldable pub first_of : ℕ → ℕ → Step
-first_of at x = pick (is_blank x) (Step.Waits 16) (pick (is_hex_digit x) (Step.Waits (digit_of x)) (Step.Wrong (Ends.NoDigit at)))
-
-unfoldable pub second_of : ℕ → ℕ → ℕ → Step
-second_of at half x =
-    pick (is_blank x) (Step.Wrong (Ends.Odd (at - 1))) (pick (is_hex_digit x) (Step.Octet (16 * half + digit_of x)) (Step.Wrong (Ends.NoDigit at)))
-
-unfoldable pub step_of : ℕ → ℕ → ℕ → Step
-step_of at half x = pick (ltb half 16) (second_of at half x) (first_of at x)
-
-unfoldable pub stepped_from : ℕ → ℕ → ℕ → List ℕ → Hex
-stepped_from room at half [] = ended (pick (ltb half 16) (Ends.Odd (at - 1)) Ends.Good)
-stepped_from room at half (x ∷ xs) =
-    pick (eqb room 0) (ended Ends.Good) (elim (step_of at half x) [
-      | Step.Waits h ↦ stepped_from room (suc at) h xs
-      | Step.Octet n ↦ behind n (stepped_from (room - 1) (suc at) 16 xs)
-      | Step.Wrong e ↦ ended e
+unfoldable pub first_of : ℕ → ℕ → Result Step HexError
+first_of at x =
+    pick (is_blank x) (Ok (Step.Waits None)) (elim (digit_of x) [
+      | None ↦ Err (HexError.NoDigit at)
+      | Some d ↦ Ok (Step.Waits (Some d))
     ])
+
+unfoldable pub second_of : ℕ → ℕ → ℕ → Result Step HexError
+second_of at half x =
+    pick (is_blank x) (Err (HexError.Odd (at - 1))) (elim (digit_of x) [
+      | None ↦ Err (HexError.NoDigit at)
+      | Some d ↦ Ok (Step.Octet (16 * half + d))
+    ])
+
+abbrev pub step_of : ℕ → Option ℕ → ℕ → Result Step HexError
+step_of at None x = first_of at x
+step_of at (Some half) x = second_of at half x
+
+abbrev pub end_of : ℕ → Option ℕ → Result (Unit {0}) HexError
+end_of at None = Ok tt
+end_of at (Some half) = Err (HexError.Odd (at - 1))
+
+-- a digit that waits is one, and stands in front
+abbrev pub Waiting : ℕ → Option ℕ → Type 0
+Waiting at None = Unit {0}
+Waiting at (Some half) = (1 ≤ at) × (half < 16)

@@ -1,131 +1,114 @@
 // A text of hex digits, two an octet, into a lent buffer.
 #![tactic(auto)]
 
-ghost use Rattle.std.specs.Prelude.{◌≡◌, ◌+◌, ◌*◌, ◌≤◌, ◌<◌, [], length};
+ghost use Rattle.std.specs.Prelude.{◌≡◌, ◌+◌, ◌*◌, ◌≤◌, ◌<◌, IfSome, length};
 ghost use Rattle.definitions.specs.Basic.{over};
 ghost use Rattle.hex_text.specs.Hex.{is_blank, digit_of, hex_of};
-ghost use Rattle.hex_text.specs.Steps.{first_of, second_of, step_of, stepped_from};
+ghost use Rattle.hex_text.specs.Steps.{first_of, second_of, step_of, end_of, Waiting};
 
-// How a text ends: well; at an octet that is no digit and no blank; at a digit that has no second one behind it.
-#[derive(Clone, Copy)]
-pub enum Ends {
-    Good,
+use std::error::Error;
+use std::fmt;
+
+// What is wrong with a text: an octet that is no digit and no blank; a digit that has no second one behind it.
+#[derive(Clone, Copy, Debug, PartialEq, Eq)]
+pub enum HexError {
     NoDigit(usize),
     Odd(usize),
 }
 
-// What an octet of text does: the digit that waits then for its second, NONE where none does; an octet; what is wrong.
-#[derive(Clone, Copy)]
-pub enum Step {
-    Waits(u8),
-    Octet(u8),
-    Wrong(Ends),
+impl fmt::Display for HexError {
+    fn fmt<W: fmt::Write>(&self, f: &mut fmt::Formatter<W>) -> fmt::Result {
+        match self {
+            HexError::NoDigit(at) => write!(f, "no hex digit at {at}"),
+            HexError::Odd(at) => write!(f, "odd hex digit at {at}"),
+        }
+    }
 }
 
-// In place of a digit.
-const NONE: u8 = 16;
+impl Error for HexError {}
 
-// How many octets the text gave, and how it ended.
-#[derive(Clone, Copy)]
+// What an octet of text does: a digit waits then for its second, or none; an octet.
+#[derive(Clone, Copy, Debug, PartialEq, Eq)]
+pub enum Step {
+    Waits(Option<u8>),
+    Octet(u8),
+}
+
+// How many octets the text gave, also where it is wrong, and how it ended.
+#[derive(Clone, Copy, Debug, PartialEq, Eq)]
 pub struct Decoded {
     pub len: usize,
-    pub ends: Ends,
+    pub ends: Result<(), HexError>,
 }
 
+#[tactic(auto, using(std::proofs::lemmas::Bool::Decides::nat_tests), unfolding(crate::specs::Hex::is_blank, definitions::specs::Basic::among))]
 fn is_blank(x: u8) -> bool
     ensures { result ≡ is_blank x }
 {
-    if x == b' ' {
-        return true;
-    }
-    if x == b'\t' {
-        return true;
-    }
-    if x == b'\n' {
-        return true;
-    }
-    if x == b'\r' {
-        return true;
-    }
-    false
+    matches!(x, b' ' | b'\t' | b'\n' | b'\r')
 }
 
-// What a digit counts; NONE where it is none.
-fn digit(x: u8) -> u8
-    ensures { result ≡ digit_of x }
+// What a digit counts.
+#[tactic(auto, using(std::proofs::lemmas::Bool::Decides::nat_tests), unfolding(crate::specs::Hex::digit_of))]
+fn digit(x: u8) -> Option<u8>
+    ensures value { result ≡ digit_of x }
+    ensures below { IfSome result (λ d. d < 16) }
 {
-    if x < b'0' {
-        return NONE;
+    match x {
+        b'0'..=b'9' => Some(x - b'0'),
+        b'A'..=b'F' => Some(x - b'A' + 10),
+        b'a'..=b'f' => Some(x - b'a' + 10),
+        _ => None,
     }
-    if x <= b'9' {
-        return x - b'0';
-    }
-    if x < b'A' {
-        return NONE;
-    }
-    if x <= b'F' {
-        return x - 55;
-    }
-    if x < b'a' {
-        return NONE;
-    }
-    if x <= b'f' {
-        return x - 87;
-    }
-    NONE
 }
 
 // Where no digit waits.
-fn first(i: usize, x: u8) -> Step
+#[tactic(auto, unfolding(crate::specs::Steps::first_of))]
+fn first(i: usize, x: u8) -> Result<Step, HexError>
     ensures { result ≡ first_of i x }
 {
     if is_blank(x) {
-        return Step::Waits(NONE);
+        return Ok(Step::Waits(None));
     }
-    let digit = digit(x);
-    if digit < NONE {
-        Step::Waits(digit)
-    } else {
-        Step::Wrong(Ends::NoDigit(i))
-    }
+    let Some(digit) = digit(x) else {
+        return Err(HexError::NoDigit(i));
+    };
+    Ok(Step::Waits(Some(digit)))
 }
 
 // Behind a digit that waits.
-fn second(i: usize, half: u8, x: u8) -> Step
+#[tactic(auto, unfolding(crate::specs::Steps::second_of))]
+fn second(i: usize, half: u8, x: u8) -> Result<Step, HexError>
     requires { (1 ≤ i) × (half < 16) }
     ensures { result ≡ second_of i half x }
 {
     if is_blank(x) {
-        return Step::Wrong(Ends::Odd(i - 1));
+        return Err(HexError::Odd(i - 1));
     }
-    let digit = digit(x);
-    if digit < NONE {
-        Step::Octet(16 * half + digit)
-    } else {
-        Step::Wrong(Ends::NoDigit(i))
-    }
+    let Some(digit) = digit(x) else {
+        return Err(HexError::NoDigit(i));
+    };
+    Ok(Step::Octet(16 * half + digit))
 }
 
-fn step_at(i: usize, half: u8, x: u8) -> Step
-    requires { 16 ≤ half + 16 * i }
+fn step_at(i: usize, half: Option<u8>, x: u8) -> Result<Step, HexError>
+    requires { Waiting i half }
     ensures { result ≡ step_of i half x }
 {
-    if half < NONE {
-        second(i, half, x)
-    } else {
-        first(i, x)
+    match half {
+        Some(half) => second(i, half, x),
+        None => first(i, x),
     }
 }
 
 // Behind the text.
-fn end_at(i: usize, half: u8) -> Ends
-    requires { 16 ≤ half + 16 * i }
-    ensures { result ≡ (stepped_from 0 i half []).ends }
+fn end_at(i: usize, half: Option<u8>) -> Result<(), HexError>
+    requires { Waiting i half }
+    ensures { result ≡ end_of i half }
 {
-    if half < NONE {
-        Ends::Odd(i - 1)
-    } else {
-        Ends::Good
+    match half {
+        Some(_) => Err(HexError::Odd(i - 1)),
+        None => Ok(()),
     }
 }
 
@@ -136,32 +119,31 @@ pub fn decode(text: &[u8], part: &mut [u8]) -> Decoded
     ensures part_after { part.new ≡ over (hex_of (length part.old) text.now).octets part.old }
 {
     let mut len = 0;
-    let mut half = NONE;
-    let mut i = 0;
-    while i < text.len() {
+    let mut half = None;
+    for (i, &x) in text.iter().enumerate() {
         if len >= part.len() {
-            return Decoded {
-                len,
-                ends: Ends::Good,
-            };
+            return Decoded { len, ends: Ok(()) };
         }
-        match step_at(i, half, text[i]) {
-            Step::Waits(digit) => {
-                half = digit;
+        let step = match step_at(i, half, x) {
+            Ok(step) => step,
+            Err(error) => {
+                return Decoded {
+                    len,
+                    ends: Err(error),
+                };
             }
-            Step::Octet(x) => {
-                part[len] = x;
+        };
+        match step {
+            Step::Waits(digit) => half = digit,
+            Step::Octet(octet) => {
+                part[len] = octet;
                 len += 1;
-                half = NONE;
-            }
-            Step::Wrong(ends) => {
-                return Decoded { len, ends };
+                half = None;
             }
         }
-        i += 1;
     }
     Decoded {
         len,
-        ends: end_at(i, half),
+        ends: end_at(text.len(), half),
     }
 }

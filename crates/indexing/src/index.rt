@@ -10,12 +10,9 @@ use rows::index::NO_PLACE;
 pub fn iei_index(table: &[u32]) -> [u8; 256]
     ensures { result ≡ index (rows_of table.now) }
 {
-    let n = places(table);
     let mut entries = [NO_PLACE; 256];
-    let mut k = 0;
-    while k < n {
+    for k in 0..places(table) {
         enter_row(table, k, &mut entries);
-        k += 1;
     }
     entries
 }

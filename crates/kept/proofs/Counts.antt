@@ -5,12 +5,17 @@ use native.Mathlib.Omega.{arith}
 use mathlib.Core.Path.{◌≡◌, refl, ◌∙◌}
 use mathlib.Core.List.{List}
 use mathlib.Core.Option.{Option, none, some}
-use borrow.Author.Tests.{eq-eqb, ne_eqb, le-leb, lt-leb}
+use borrow.Author.Tests.{eq-eqb, ne_eqb, le-leb, lt-leb, leb-true, leb-false}
+use mathlib.Core.Bool.{Bool, true, false, ◌&&◌}
+use lib.Dec.{leb}
+use Rattle.std.specs.Bool.{then_some}
 use lib.ListN.{length, get_or, drop, length-drop}
 use lib.Seq.{get_or-drop, drop-drop}
+use Rattle.std.specs.Prelude.{Some, None}
+use Rattle.definitions.specs.Basic.{pick}
 use Rattle.definitions.specs.Logs.{Count, continued, count_f, allowed, count_at}
 use Rattle.definitions.proofs.Logs.{count-end, count-last, count-more, entry_of, Allowed, count-allowed}
-use Rattle.kept.specs.Kept.{count_of}
+use Rattle.kept.specs.Kept.{count_of, count_from}
 use Rattle.kept.specs.declared.Count.{Count as Found}
 
 -- seven bits in front of a count that is 0, or not
@@ -101,33 +106,38 @@ module _ (s : List ℕ) where
           deeper ∙ rw (e, continued-more (get_or s 0 0) c (omega arith))
 
 -- what a count that was read says of the definition
-pub count-is : (o : Option Count) {v t : ℕ} → Found.Is v t ≡ count_of o → o ≡ some (record { value = v; took = t })
-count-is none e = let z : ◌≡◌ {A = ℕ} 0 1 = cc in absurd (omega arith)
-count-is (some c) {v = v} {t = t} e =
-    let p : v ≡ c.value = cc in
-    let q : t ≡ c.took = cc in
-    rw (p, q)
+pub count-is : (o : Option Count) {c : Found} → Some c ≡ count_of o → o ≡ some (record { value = c.value; took = c.took })
+count-is none e = cc
+count-is (some d) {c = c} e = let p : c ≡ record { value = d.value; took = d.took } = cc in rw p
 
-pub count-not : (o : Option Count) → Found.Not ≡ count_of o → o ≡ none
+pub count-not : (o : Option Count) → None ≡ count_of o → o ≡ none
 count-not none e = refl
-count-not (some c) e = let z : ◌≡◌ {A = ℕ} 0 1 = cc in absurd (omega arith)
+count-not (some c) e = cc
 
 -- the entry by its count: the log has the element behind it, or ends before
-module _ (s : List ℕ) {v t : ℕ} (e : Found.Is v t ≡ count_of (count_at s)) where
-  is : count_at s ≡ some (record { value = v; took = t })
+module _ (s : List ℕ) {c : Found} (e : Some c ≡ count_of (count_at s)) where
+  is : count_at s ≡ some (record { value = c.value; took = c.took })
   is = count-is (count_at s) e
 
-  pub entry-there : v + t ≤ length s → Found.Is v t ≡ count_of (entry_of s (count_at s))
+  pub entry-there : c.value + c.took ≤ length s → Some c ≡ count_of (entry_of s (count_at s))
   unfolding entry_of
-  entry-there h = rw (is, le-leb v (length (drop t s)) (simp length-drop (omega arith)))
+  entry-there h = rw (is, le-leb c.value (length (drop c.took s)) (simp length-drop (omega arith)))
 
-  pub entry_past : length s < v + t → Found.Not ≡ count_of (entry_of s (count_at s))
+  pub entry_past : length s < c.value + c.took → None ≡ count_of (entry_of s (count_at s))
   unfolding entry_of
   entry_past h =
-      let a : Allowed (some (record { value = v; took = t })) = rw is at (count-allowed s) in
-      rw (is, lt-leb v (length (drop t s)) (simp length-drop (omega arith)))
+      let a : Allowed (some (record { value = c.value; took = c.took })) = rw is at (count-allowed s) in
+      rw (is, lt-leb c.value (length (drop c.took s)) (simp length-drop (omega arith)))
 
-pub entry-not : (s : List ℕ) → Found.Not ≡ count_of (count_at s) → Found.Not ≡ count_of (entry_of s (count_at s))
+  -- by how many octets are left behind the count
+  pub entry-judged : (l : ℕ) → c.took + l ≡ length s → then_some (leb c.value l) c ≡ count_of (entry_of s (count_at s))
+  entry-judged l h = by (leb c.value l) refl
+    where
+      by : (b : Bool) → leb c.value l ≡ b → then_some b c ≡ count_of (entry_of s (count_at s))
+      by true t = let g = leb-true c.value l t in entry-there (omega arith)
+      by false t = let g = leb-false c.value l t in entry_past (omega arith)
+
+pub entry-not : (s : List ℕ) → None ≡ count_of (count_at s) → None ≡ count_of (entry_of s (count_at s))
 unfolding entry_of
 entry-not s e = rw (count-not (count_at s) e)
 
@@ -137,3 +147,13 @@ unfolding allowed entry_of
 entry-like s n h a l e =
     let c : count_at s ≡ some (record { value = n; took = 1 }) = one s (omega arith) (omega arith) ∙ rw (e, le-leb 1 n h, le-leb n 65535 (omega arith)) in
     rw (c, le-leb n (length (drop 1 s)) (simp length-drop (omega arith)))
+
+-- a count that is not allowed
+pub allowed-not : (v t : ℕ) → (1 ≤ v → v ≤ 65535 → ⊥) → None ≡ count_of (allowed (count_from v t))
+unfolding allowed
+allowed-not v t n = by (leb 1 v) (leb v 65535) refl refl
+  where
+    by : (b d : Bool) → leb 1 v ≡ b → leb v 65535 ≡ d → None ≡ count_of (pick (b && d) (count_from v t) none)
+    by true true p q = absurd (n (leb-true 1 v p) (leb-true v 65535 q))
+    by true false p q = refl
+    by false d p q = refl

@@ -3,4 +3,5 @@ pub mod Counts
 pub mod Walks
 pub mod Asked
 pub mod Entries
+pub mod Pushes
 pub mod SameAnswers

@@ -1,5 +1,5 @@
 -- The answers of the kept log by the definitions, and what a walk over it holds.
-use Rattle.std.specs.Prelude.{ℕ, ◌+◌, ◌≤◌, List, [], ◌∷◌, ◌&&◌, length, take, drop, eqb, leb}
+use Rattle.std.specs.Prelude.{ℕ, ◌+◌, ◌≤◌, List, [], ◌∷◌, ◌&&◌, length, take, drop, eqb, leb, Option as Answered, Some, None, Result, Ok, Err}
 use Rattle.std.proofs.Math.Option.{Option, none, some}
 use Rattle.std.specs.Borrow.{Bor}
 use Rattle.definitions.specs.Basic.{pick, Answer, answer, Used, over, most_octets}
@@ -8,31 +8,34 @@ use Rattle.definitions.proofs.LogWalks.{kept_log, told}
 use Rattle.octets.specs.Places.{StandsAt}
 use Rattle.kept.specs.declared.Count.{Count}
 use Rattle.kept.specs.declared.Walk.{Walk}
-use Rattle.kept.specs.declared.Step.{Step}
-use Rattle.kept.specs.declared.Walked.{Walked}
-use Rattle.kept.specs.declared.Pushed.{Pushed}
-use Rattle.kept.specs.declared.Counted.{Counted}
-use Rattle.kept.specs.declared.Got.{Got}
+use Rattle.kept.specs.declared.Span.{Span}
+use Rattle.kept.specs.declared.LogError.{LogError}
+use Rattle.kept.specs.declared.PushError.{PushError}
 
 -- ---- the answers' numbers and values
 
+-- a log refused when it is asked, and when it is pushed to
+abbrev pub push_error : LogError → PushError
+push_error LogError.TooLong = PushError.TooLong
+push_error LogError.Malformed = PushError.Malformed
+
 -- which is the value of 11, room that of 2
-abbrev pub pushed_as : ℕ → ℕ → Pushed → Answer
-pushed_as which room (Pushed.Used n) = answer 0 (n ∷ [])
-pushed_as which room Pushed.TooLong = answer 3 []
-pushed_as which room Pushed.Malformed = answer 11 (which ∷ [])
-pushed_as which room Pushed.NoRoom = answer 2 (room ∷ [])
+abbrev pub pushed_as : ℕ → ℕ → Result ℕ PushError → Answer
+pushed_as which room (Ok n) = answer 0 (n ∷ [])
+pushed_as which room (Err PushError.TooLong) = answer 3 []
+pushed_as which room (Err PushError.Malformed) = answer 11 (which ∷ [])
+pushed_as which room (Err PushError.NoRoom) = answer 2 (room ∷ [])
 
-abbrev pub counted_as : Counted → Answer
-counted_as (Counted.Elements n) = answer 0 (n ∷ [])
-counted_as Counted.TooLong = answer 3 []
-counted_as Counted.Malformed = answer 11 (2 ∷ [])
+abbrev pub counted_as : Result ℕ LogError → Answer
+counted_as (Ok n) = answer 0 (n ∷ [])
+counted_as (Err LogError.TooLong) = answer 3 []
+counted_as (Err LogError.Malformed) = answer 11 (2 ∷ [])
 
-abbrev pub got_as : Got → Answer
-got_as (Got.Element start len) = answer 0 (start ∷ len ∷ [])
-got_as Got.PastLast = answer 0 []
-got_as Got.TooLong = answer 3 []
-got_as Got.Malformed = answer 11 (2 ∷ [])
+abbrev pub got_as : Result (Answered Span) LogError → Answer
+got_as (Ok (Some s)) = answer 0 (s.start ∷ s.len ∷ [])
+got_as (Ok None) = answer 0 []
+got_as (Err LogError.TooLong) = answer 3 []
+got_as (Err LogError.Malformed) = answer 11 (2 ∷ [])
 
 -- a lent buffer with its used count
 abbrev pub used_of : List ℕ → ℕ → Used
@@ -56,9 +59,9 @@ PlacedBy log (start ∷ len ∷ vs) part = start ≤ length log.now → StandsAt
 
 -- ---- a walk
 
-abbrev pub count_of : Option DefCount → Count
-count_of none = Count.Not
-count_of (some c) = Count.Is c.value c.took
+abbrev pub count_of : Option DefCount → Answered Count
+count_of none = None
+count_of (some c) = Some (record { value = c.value; took = c.took })
 
 abbrev pub count_from : ℕ → ℕ → Option DefCount
 count_from value took = some (record { value = value; took = took })
@@ -66,28 +69,29 @@ count_from value took = some (record { value = value; took = took })
 -- past an entry; the one wanted is remembered
 unfoldable pub passed : Walk → ℕ → DefCount → Walk
 passed w want c =
-    record { at = w.at + (c.took + c.value); count = w.count + 1; start = pick (eqb w.count want) (w.at + c.took) w.start; len = pick (eqb w.count want) c.value w.len }
+    record { at = w.at + c.took + c.value; count = w.count + 1; wanted = pick (eqb w.count want) (Some (record { start = w.at + c.took; len = c.value })) w.wanted }
 
-abbrev pub step_of : Walk → ℕ → Option DefCount → Step
-step_of w want none = Step.Malformed
-step_of w want (some c) = Step.To (passed w want c)
+abbrev pub step_of : Walk → ℕ → Option DefCount → Answered Walk
+step_of w want none = None
+step_of w want (some c) = Some (passed w want c)
 
 -- what a walk has found: start and length of the wanted element, or nothing yet
-unfoldable pub found_by : ℕ → ℕ → List ℕ
-found_by start len = pick (eqb len 0) [] (start ∷ len ∷ [])
+abbrev pub found_by : Answered Span → List ℕ
+found_by None = []
+found_by (Some s) = s.start ∷ s.len ∷ []
 
 -- what a finished walk tells: how many elements there are, and where the wanted one is
-unfoldable pub told_by : Walked → Option (List ℕ)
-told_by (Walked.Log count start len) = some (count ∷ found_by start len)
-told_by Walked.Malformed = none
+abbrev pub told_by : Answered Walk → Option (List ℕ)
+told_by None = none
+told_by (Some w) = some (w.count ∷ found_by w.wanted)
 
 -- the same from where a walk is, by the elements that are left
 abbrev pub tell : Walk → ℕ → Option (List (List ℕ)) → Option (List ℕ)
-tell w want = told kept_log want w.at w.count (found_by w.start w.len)
+tell w want = told kept_log want w.at w.count (found_by w.wanted)
 
 -- a walk that begins
 abbrev pub start_walk : Walk
-start_walk = record { at = 0; count = 0; start = 0; len = 0 }
+start_walk = record { at = 0; count = 0; wanted = None }
 
 -- an element in the front of a buffer behind its count, if it is one that a log can hold and there is room
 unfoldable pub kept_into : List ℕ → List ℕ → List ℕ

@@ -2,11 +2,12 @@
 // and how many of its octets are used.
 #![tactic(auto)]
 
-ghost use Rattle.std.specs.Prelude.{◌≡◌, ◌∷◌, true, ◌+◌, ◌*◌, ◌%◌, ◌≤◌, ◌<◌, length, drop};
-ghost use Rattle.definitions.specs.Basic.{over, too_long};
+ghost use Rattle.std.specs.Prelude.{◌≡◌, ◌∷◌, true, ◌+◌, ◌*◌, ◌%◌, ◌≤◌, ◌<◌, ◌↔◌, length, take, drop, Ok, IsOk, IfOk, IfErr};
+ghost use Rattle.definitions.specs.Basic.{over, too_long, most_log};
 ghost use Rattle.definitions.specs.Logs.{leb128, kept_entry, count_at, allowed, kept_list, kept_push, kept_count, kept_get, kept_clear};
 ghost use Rattle.definitions.proofs.Logs.{entry_of};
-ghost use Rattle.kept.specs.Kept.{count_of, count_from, step_of, told_by, tell, start_walk, pushed_as, counted_as, got_as, used_of, part_of, PlacedBy, kept_into, kept_takes};
+ghost use Rattle.octets.specs.Places.{StandsAt};
+ghost use Rattle.kept.specs.Kept.{count_of, count_from, step_of, told_by, tell, start_walk, push_error, pushed_as, counted_as, got_as, used_of, part_of, PlacedBy, kept_into, kept_takes};
 
 use copying::put_slice;
 use octets::{MOST_OCTETS, part};
@@ -14,71 +15,62 @@ use octets::{MOST_OCTETS, part};
 // The most octets of a log that are used.
 pub const MOST_LOG: usize = 131_070;
 
-// What pushing answers: the octets then used, or a refusal.
-#[derive(Clone, Copy)]
-pub enum Pushed {
-    Used(usize),
+// Why a log is refused that is only asked.
+#[derive(Clone, Copy, PartialEq, Eq)]
+pub enum LogError {
+    TooLong,
+    Malformed,
+}
+
+// Why an entry is not pushed.
+#[derive(Clone, Copy, PartialEq, Eq)]
+pub enum PushError {
     TooLong,
     Malformed,
     NoRoom,
 }
 
-// How many elements a log holds.
-#[derive(Clone, Copy)]
-pub enum Counted {
-    Elements(usize),
-    TooLong,
-    Malformed,
+impl From<LogError> for PushError {
+    ghost from_gives = { λ e p. p ≡ push_error e };
+
+    fn from(error: LogError) -> PushError {
+        match error {
+            LogError::TooLong => PushError::TooLong,
+            LogError::Malformed => PushError::Malformed,
+        }
+    }
 }
 
-// Where an element stands in a log, IEI first: its start and its length; or none, past the last.
-#[derive(Clone, Copy)]
-pub enum Got {
-    Element(usize, usize),
-    PastLast,
-    TooLong,
-    Malformed,
-}
-
-// A count at the front: its value, and how many octets it takes.
-#[derive(Clone, Copy)]
-pub enum Count {
-    Is(usize, usize),
-    Not,
-}
-
-// Where a walk over a log is: its position, the elements passed, and start and length of the wanted one, 0 while not met.
-#[derive(Clone, Copy)]
-pub struct Walk {
-    pub at: usize,
-    pub count: usize,
+// Where an element stands in a log, IEI first.
+#[derive(Clone, Copy, PartialEq, Eq)]
+pub struct Span {
     pub start: usize,
     pub len: usize,
 }
 
-#[derive(Clone, Copy)]
-pub enum Step {
-    To(Walk),
-    Malformed,
+// A count at the front: its value, and how many octets it takes.
+#[derive(Clone, Copy, PartialEq, Eq)]
+pub struct Count {
+    pub value: usize,
+    pub took: usize,
 }
 
-#[derive(Clone, Copy)]
-pub enum Walked {
-    Log(usize, usize, usize),
-    Malformed,
+// Where a walk over a log is: its position, the elements passed, and the wanted one, once it is met.
+#[derive(Clone, Copy, PartialEq, Eq)]
+pub struct Walk {
+    pub at: usize,
+    pub count: usize,
+    pub wanted: Option<Span>,
 }
 
 // A count that is not malformed: from 1 to 65,535.
-fn allowed_count(value: usize, took: usize) -> Count
+fn allowed_count(value: usize, took: usize) -> Option<Count>
     ensures { result ≡ count_of (allowed (count_from value took)) }
 {
-    if value == 0 {
-        return Count::Not;
+    match value {
+        1..=MOST_OCTETS => Some(Count { value, took }),
+        _ => None,
     }
-    if value > MOST_OCTETS {
-        return Count::Not;
-    }
-    Count::Is(value, took)
 }
 
 // Seven bits of an octet in front of more.
@@ -86,184 +78,122 @@ fn bits(octet: u8, more: usize) -> usize
     requires { more < 65536 }
     ensures { result ≡ octet % 128 + 128 * more }
 {
-    ((octet % 128) as usize) + 128 * more
+    usize::from(octet % 128) + 128 * more
 }
 
 // The count at the front of a log.
-fn count_at(s: &[u8]) -> Count
+fn count_at(s: &[u8]) -> Option<Count>
     ensures { result ≡ count_of (count_at s.now) }
 {
-    if s.len() == 0 {
-        return Count::Not;
+    match *s {
+        [a, ..] if a < 128 => allowed_count(usize::from(a), 1),
+        [a, b, ..] if 0 < b && b < 128 => allowed_count(bits(a, usize::from(b)), 2),
+        [a, b, c, ..] if 128 <= b && 0 < c && c < 128 => {
+            allowed_count(bits(a, bits(b, usize::from(c))), 3)
+        }
+        _ => None,
     }
-    let a = s[0];
-    if a < 128 {
-        return allowed_count(a as usize, 1);
-    }
-    if s.len() == 1 {
-        return Count::Not;
-    }
-    let b = s[1];
-    if b == 0 {
-        return Count::Not;
-    }
-    if b < 128 {
-        return allowed_count(bits(a, b as usize), 2);
-    }
-    if s.len() == 2 {
-        return Count::Not;
-    }
-    let c = s[2];
-    if c == 0 {
-        return Count::Not;
-    }
-    if c >= 128 {
-        return Count::Not;
-    }
-    allowed_count(bits(a, bits(b, c as usize)), 3)
 }
 
 // The count at the front, where the log has the element behind it.
-pub fn entry_at(s: &[u8]) -> Count
+pub fn entry_at(s: &[u8]) -> Option<Count>
     ensures { result ≡ count_of (entry_of s.now (count_at s.now)) }
 {
-    match count_at(s) {
-        Count::Is(value, took) => {
-            if took > s.len() {
-                return Count::Not;
-            }
-            if value > s.len() - took {
-                return Count::Not;
-            }
-            Count::Is(value, took)
-        }
-        Count::Not => Count::Not,
-    }
+    let count = count_at(s)?;
+    let left = s.len().checked_sub(count.took)?;
+    (count.value <= left).then_some(count)
 }
 
-// Whether the entry at the front has n octets, behind a count of one octet.
+// Whether the entry at the front has n octets, behind a count of one octet. Compared as octets, so that the compiled code goes on with n
+// and not with the count that it would wait for.
 fn is_like(s: &[u8], n: usize) -> bool
     ensures { result ≡ true → entry_of s.now (count_at s.now) ≡ count_from n 1 }
 {
-    if n < 1 {
+    if n < 1 || n > 127 || n >= s.len() {
         return false;
     }
-    if n > 127 {
-        return false;
-    }
-    if n >= s.len() {
-        return false;
-    }
-    s[0] == (n as u8)
+    s[0] == n as u8
 }
 
 // As `entry_at`, for a caller who expects n octets, as the entry before had: a count that is only compared with n need not be waited
 // for to know where the next entry begins.
-pub fn entry_like(s: &[u8], n: usize) -> Count
+pub fn entry_like(s: &[u8], n: usize) -> Option<Count>
     ensures { result ≡ count_of (entry_of s.now (count_at s.now)) }
 {
     if is_like(s, n) {
-        return Count::Is(n, 1);
+        return Some(Count { value: n, took: 1 });
     }
     entry_at(s)
 }
 
 // Past the entry at a position; the one wanted is remembered.
-fn kept_step(content: &[u8], w: Walk, want: usize) -> Step
+fn kept_step(content: &[u8], w: Walk, want: usize) -> Option<Walk>
     requires { (w.at < length content.now) × (w.count ≤ w.at) }
     ensures { result ≡ step_of w want (entry_of (drop w.at content.now) (count_at (drop w.at content.now))) }
 {
-    let at = w.at;
-    let count = w.count;
-    match entry_at(&content[at..]) {
-        Count::Is(value, took) => {
-            if count == want {
-                return Step::To(Walk {
-                    at: at + (took + value),
-                    count: count + 1,
-                    start: at + took,
-                    len: value,
-                });
-            }
-            Step::To(Walk {
-                at: at + (took + value),
-                count: count + 1,
-                start: w.start,
-                len: w.len,
-            })
-        }
-        Count::Not => Step::Malformed,
-    }
+    let Count { value, took } = entry_at(&content[w.at..])?;
+    let start = w.at + took;
+    let wanted = if w.count == want {
+        Some(Span { start, len: value })
+    } else {
+        w.wanted
+    };
+    Some(Walk {
+        at: start + value,
+        count: w.count + 1,
+        wanted,
+    })
 }
 
-// The whole log once: how many elements it holds, and where the wanted one stands; its length is 0 past the last.
-fn walk_kept(content: &[u8], want: usize) -> Walked
+// The whole log once: how many elements it holds, and where the wanted one stands; None where it is malformed.
+fn walk_kept(content: &[u8], want: usize) -> Option<Walk>
     ensures { told_by result ≡ tell start_walk want (kept_list content.now) }
 {
     let mut w = Walk {
         at: 0,
         count: 0,
-        start: 0,
-        len: 0,
+        wanted: None,
     };
     while w.at < content.len() {
-        match kept_step(content, w, want) {
-            Step::To(next) => {
-                w = next;
-            }
-            Step::Malformed => {
-                return Walked::Malformed;
-            }
-        }
+        w = kept_step(content, w, want)?;
     }
-    Walked::Log(w.count, w.start, w.len)
+    Some(w)
 }
 
 // Whether a used count is above its buffer, or over a limit.
 pub fn too_long(buffer: &[u8], used: usize, most: usize) -> bool
     ensures { result ≡ too_long most (used_of buffer.now used) }
 {
-    if used > buffer.len() {
-        return true;
+    used > buffer.len() || used > most
+}
+
+// The octets of a log that are used.
+pub fn content_of(log: &[u8], used: usize) -> Result<&[u8], LogError>
+    ensures content { IfOk result (λ s. s.now ≡ take used log.now) }
+    ensures stands_at { IfOk result (λ s. StandsAt 0 log.entry s) }
+    ensures short { IsOk result ↔ ((used ≤ length log.now) × (used ≤ most_log)) }
+    ensures long { IfErr result (λ e. e ≡ LogError.TooLong) }
+{
+    if too_long(log, used, MOST_LOG) {
+        return Err(LogError::TooLong);
     }
-    used > most
+    Ok(&log[..used])
 }
 
 // `UnknownIes::len`: how many elements there are.
-pub fn kept_count(log: &[u8], used: usize) -> Counted
+pub fn kept_count(log: &[u8], used: usize) -> Result<usize, LogError>
     ensures { counted_as result ≡ kept_count (used_of log.now used) }
 {
-    if used > log.len() {
-        return Counted::TooLong;
-    }
-    if used > MOST_LOG {
-        return Counted::TooLong;
-    }
-    match walk_kept(&log[..used], 0) {
-        Walked::Log(count, _, _) => Counted::Elements(count),
-        Walked::Malformed => Counted::Malformed,
-    }
+    let walk = walk_kept(content_of(log, used)?, 0).ok_or(LogError::Malformed)?;
+    Ok(walk.count)
 }
 
-// `UnknownIes::get`: the element at a number from 0.
-pub fn kept_get(log: &[u8], used: usize, k: usize) -> Got
+// `UnknownIes::get`: the element at a number from 0; None past the last.
+pub fn kept_get(log: &[u8], used: usize, k: usize) -> Result<Option<Span>, LogError>
     ensures { got_as result ≡ kept_get (used_of log.now used) k }
 {
-    if used > log.len() {
-        return Got::TooLong;
-    }
-    if used > MOST_LOG {
-        return Got::TooLong;
-    }
-    match walk_kept(&log[..used], k) {
-        Walked::Log(_, start, len) => {
-            if len == 0 {
-                return Got::PastLast;
-            }
-            Got::Element(start, len)
-        }
-        Walked::Malformed => Got::Malformed,
-    }
+    let walk = walk_kept(content_of(log, used)?, k).ok_or(LogError::Malformed)?;
+    Ok(walk.wanted)
 }
 
 // The same as a part of the log, IEI first; no octet where there is none.
@@ -272,18 +202,16 @@ pub fn kept_element(log: &[u8], used: usize, k: usize) -> &[u8]
     ensures placed_by { PlacedBy log.entry (kept_get (used_of log.now used) k).values result }
 {
     match kept_get(log, used, k) {
-        Got::Element(start, len) => part(log, start, len),
-        Got::PastLast => &log[..0],
-        Got::TooLong => &log[..0],
-        Got::Malformed => &log[..0],
+        Ok(Some(Span { start, len })) => part(log, start, len),
+        _ => &log[..0],
     }
 }
 
-// `UnknownIes::clear`: every element out; no octet is used, and none changes.
-pub fn kept_clear(log: &[u8], used: usize) -> Pushed
-    ensures { pushed_as 2 2 result ≡ (kept_clear (used_of log.now used)).said }
+// `UnknownIes::clear`: every element out; no octet is used, and none changes. The number of octets then used.
+pub fn kept_clear(log: &[u8], used: usize) -> usize
+    ensures { pushed_as 2 2 (Ok result) ≡ (kept_clear (used_of log.now used)).said }
 {
-    Pushed::Used(0)
+    0
 }
 
 // How many octets a count takes in shortest form.
@@ -336,45 +264,38 @@ fn put_entry(out: &mut [u8], iei: u8, octets: &[u8])
     put_element(&mut out[c..], iei, octets);
 }
 
-// `UnknownIes::push`: an IEI and the octets after it, behind those used.
-pub fn kept_push(log: &mut [u8], used: usize, iei: u8, octets: &[u8]) -> Pushed
-    ensures { (pushed_as 2 2 result ≡ (kept_push (used_of log.old used) iei octets.now).said) × (log.new ≡ (kept_push (used_of log.old used) iei octets.now).log) }
+// `UnknownIes::push`: an IEI and the octets after it, behind those used; how many octets are then used.
+pub fn kept_push(log: &mut [u8], used: usize, iei: u8, octets: &[u8]) -> Result<usize, PushError>
+    ensures said { pushed_as 2 2 result ≡ (kept_push (used_of log.old used) iei octets.now).said }
+    ensures log_after { log.new ≡ (kept_push (used_of log.old used) iei octets.now).log }
 {
-    if used > log.len() {
-        return Pushed::TooLong;
-    }
-    if used > MOST_LOG {
-        return Pushed::TooLong;
-    }
+    let content = content_of(&*log, used)?;
     if octets.len() >= MOST_OCTETS {
-        return Pushed::TooLong;
+        return Err(PushError::TooLong);
     }
     let n = octets.len() + 1;
-    let need = count_len(n) + n;
-    if used + need > MOST_LOG {
-        return Pushed::TooLong;
+    let after = used + (count_len(n) + n);
+    if after > MOST_LOG {
+        return Err(PushError::TooLong);
     }
-    match walk_kept(&log[..used], 0) {
-        Walked::Log(_, _, _) => {
-            if used + need > log.len() {
-                return Pushed::NoRoom;
-            }
-            put_entry(&mut log[used..], iei, octets);
-            Pushed::Used(used + need)
-        }
-        Walked::Malformed => Pushed::Malformed,
+    walk_kept(content, 0).ok_or(PushError::Malformed)?;
+    if after > log.len() {
+        return Err(PushError::NoRoom);
     }
+    put_entry(&mut log[used..], iei, octets);
+    Ok(after)
 }
 
 // An element, its IEI first, behind its count into the front of a buffer, if it has from 1 to 65,535 octets and there is room;
-// how many octets that takes, or 0.
+// how many octets were put.
 pub fn put_raw(out: &mut [u8], element: &[u8]) -> usize
-    ensures { (result ≡ kept_takes element.now out.old) × (out.new ≡ kept_into element.now out.old) }
+    ensures took { result ≡ kept_takes element.now out.old }
+    ensures out_after { out.new ≡ kept_into element.now out.old }
 {
-    let n = element.len();
-    if n == 0 {
+    let Some((&iei, octets)) = element.split_first() else {
         return 0;
-    }
+    };
+    let n = element.len();
     if n > MOST_OCTETS {
         return 0;
     }
@@ -382,6 +303,6 @@ pub fn put_raw(out: &mut [u8], element: &[u8]) -> usize
     if need > out.len() {
         return 0;
     }
-    put_entry(out, element[0], &element[1..]);
+    put_entry(out, iei, octets);
     need
 }

@@ -3,49 +3,46 @@
 // beside src/ holds document 01's numbers.
 #![tactic(auto)]
 
-use kept::{Got, Pushed, kept_get, kept_push};
-use length::{UnknownLength, generic_ie_length};
+use kept::{LogError, PushError, Span, kept_get, kept_push};
+use length::{CutShort, generic_ie_length};
 use octets::part;
 use order::{Placed, order_push};
-use std::io::Result;
+use std::io;
 
 // The start number of table P.
 const START: u8 = 0x70;
 
-fn wide(x: u8) -> u64 {
-    x as u64
-}
-
 // Octets, each as a blank and two hex digits.
-fn print_octets<R: Print>(rt: &R, s: &[u8]) -> Result<()> {
+fn print_octets<R: Print>(rt: &R, s: &[u8]) -> io::Result<()> {
     for x in s {
-        let octet = wide(*x);
-        print!(rt; " {octet:02x}")?;
+        print!(rt; " {x:02x}")?;
     }
     Ok(())
 }
 
 // How many octets of a log are used after a push; as many as before where it was refused, which is said.
-fn used_after<R: Print>(rt: &R, pushed: Pushed, before: usize) -> Result<usize> {
-    match pushed {
-        Pushed::Used(used) => Ok(used),
-        Pushed::TooLong => {
-            rt.print(" refused 3")?;
-            Ok(before)
-        }
-        Pushed::Malformed => {
-            rt.print(" refused 11")?;
-            Ok(before)
-        }
-        Pushed::NoRoom => {
-            rt.print(" refused 2")?;
-            Ok(before)
-        }
-    }
+fn used_after<R: Print>(
+    rt: &R,
+    pushed: Result<usize, PushError>,
+    before: usize,
+) -> io::Result<usize> {
+    let number = match pushed {
+        Ok(used) => return Ok(used),
+        Err(PushError::TooLong) => 3,
+        Err(PushError::Malformed) => 11,
+        Err(PushError::NoRoom) => 2,
+    };
+    print!(rt; " refused {number}")?;
+    Ok(before)
 }
 
 // Both logs of one unknown element, each in a lent buffer.
-fn show_logs<R: Print>(rt: &R, element: &[u8], order: &mut [u8], kept: &mut [u8]) -> Result<()> {
+fn show_logs<R: Print>(
+    rt: &R,
+    element: &[u8],
+    order: &mut [u8],
+    kept: &mut [u8],
+) -> io::Result<()> {
     if element.len() == 0 {
         return Ok(());
     }
@@ -58,33 +55,38 @@ fn show_logs<R: Print>(rt: &R, element: &[u8], order: &mut [u8], kept: &mut [u8]
 }
 
 // The whole length of an unknown element, and its logs; or how many octets are missing.
-fn show_unknown<R: Print>(rt: &R, element: &[u8], order: &mut [u8], kept: &mut [u8]) -> Result<()> {
+fn show_unknown<R: Print>(
+    rt: &R,
+    element: &[u8],
+    order: &mut [u8],
+    kept: &mut [u8],
+) -> io::Result<()> {
     rt.print("element")?;
     print_octets(rt, element)?;
     match generic_ie_length(element, START) {
-        UnknownLength::Octets(n) => {
+        Ok(n) => {
             print!(rt; " length {n}")?;
             show_logs(rt, part(element, 0, n), order, kept)?;
             rt.println("")
         }
-        UnknownLength::CutShort(missing) => println!(rt; " cut short, missing {missing}"),
+        Err(CutShort { missing }) => println!(rt; " cut short, missing {missing}"),
     }
 }
 
 // The length of the element at a number, and the octets of its count, which stand from a position on.
-fn show_count<R: Print>(rt: &R, log: &[u8], used: usize, k: usize, from: usize) -> Result<()> {
+fn show_count<R: Print>(rt: &R, log: &[u8], used: usize, k: usize, from: usize) -> io::Result<()> {
     match kept_get(log, used, k) {
-        Got::Element(start, len) => {
+        Ok(Some(Span { start, len })) => {
             print!(rt; "octets {len} count")?;
             print_octets(rt, part(part(log, 0, start), from, start))?;
         }
-        Got::PastLast => {
+        Ok(None) => {
             rt.print("past the last")?;
         }
-        Got::TooLong => {
+        Err(LogError::TooLong) => {
             rt.print("refused 3")?;
         }
-        Got::Malformed => {
+        Err(LogError::Malformed) => {
             rt.print("refused 11")?;
         }
     }
@@ -92,14 +94,14 @@ fn show_count<R: Print>(rt: &R, log: &[u8], used: usize, k: usize, from: usize) 
 }
 
 // Elements of 127 and 128 octets, pushed one behind the other.
-fn show_counts<R: Print>(rt: &R, data: &[u8], log: &mut [u8]) -> Result<()> {
+fn show_counts<R: Print>(rt: &R, data: &[u8], log: &mut [u8]) -> io::Result<()> {
     let first = used_after(rt, kept_push(log, 0, 0x05, part(data, 0, 126)), 0)?;
     let second = used_after(rt, kept_push(log, first, 0x05, part(data, 0, 127)), first)?;
     show_count(rt, log, second, 0, 0)?;
     show_count(rt, log, second, 1, first)
 }
 
-fn main(rt: HostRuntime) -> Result<()> {
+fn main(rt: HostRuntime) -> io::Result<()> {
     let mut order = [0u8; 8];
     let mut kept = [0u8; 8];
     show_unknown(&rt, b"\x6f\x00", &mut order, &mut kept)?;

@@ -1,29 +1,22 @@
 // The length of an element from the octets from its first octet on (TS 24.007, 11.2.4).
 #![tactic(auto)]
 
-ghost use Rattle.std.specs.Prelude.{◌≡◌, ◌-◌, length};
+ghost use Rattle.std.specs.Prelude.{◌≡◌};
+ghost use Rattle.std.proofs.Math.Option.{some};
 ghost use Rattle.definitions.specs.Rows.{tlv, tlv-e};
-ghost use Rattle.definitions.specs.Length.{whole, unknown_length, lacking, missing};
+ghost use Rattle.definitions.specs.Length.{whole, within, unknown_length, lacking, missing};
 ghost use Rattle.length.specs.Answers.{length_of, unknown_of, kind_of, long_or_short};
 
-use octets::{Cursor, Octet, Pair};
+use octets::Cursor;
 
-// The whole length, or cut short: the octets end before the element does.
-#[derive(Clone, Copy)]
-pub enum Length {
-    Octets(usize),
-    CutShort,
-}
-
-// The same of an unknown element: cut short, it says how many octets are missing.
-#[derive(Clone, Copy)]
-pub enum UnknownLength {
-    Octets(usize),
-    CutShort(usize),
+// An unknown element that is cut short: the octets end before it does, by so many.
+#[derive(Clone, Copy, PartialEq, Eq)]
+pub struct CutShort {
+    pub missing: usize,
 }
 
 // What its first octet says of an unknown element.
-#[derive(Clone, Copy)]
+#[derive(Clone, Copy, PartialEq, Eq)]
 pub enum UnknownKind {
     OneOctet,
     Required,
@@ -41,67 +34,51 @@ pub fn unknown_kind(x: u8) -> UnknownKind
     }
 }
 
-// The length of a TLV element, with one length octet.
-pub fn tlv_length(octets: &[u8]) -> Length
-    ensures { result ≡ length_of (whole tlv octets.now) }
+// A whole length, if there are so many octets.
+fn within(length: usize, octets: &[u8]) -> Option<usize>
+    ensures { result ≡ length_of (within octets.now (some length)) }
 {
-    match (Cursor { at: 1 }).get_u8(octets) {
-        Octet::Is(n, _) => {
-            let length = 2 + (n as usize);
-            if length <= octets.len() {
-                Length::Octets(length)
-            } else {
-                Length::CutShort
-            }
-        }
-        Octet::Short => Length::CutShort,
-    }
+    (length <= octets.len()).then_some(length)
 }
 
-// The length of a TLV-E element, with two length octets.
-pub fn tlve_length(octets: &[u8]) -> Length
+// The length of a TLV element, with one length octet; None where it is cut short.
+pub fn tlv_length(octets: &[u8]) -> Option<usize>
+    ensures { result ≡ length_of (whole tlv octets.now) }
+{
+    let (n, _) = (Cursor { at: 1 }).get_u8(octets)?;
+    within(2 + usize::from(n), octets)
+}
+
+// The length of a TLV-E element, with two length octets; None where it is cut short.
+pub fn tlve_length(octets: &[u8]) -> Option<usize>
     ensures { result ≡ length_of (whole tlv-e octets.now) }
 {
-    match (Cursor { at: 1 }).get_u16(octets) {
-        Pair::Is(n, _) => {
-            let length = 3 + (n as usize);
-            if length <= octets.len() {
-                Length::Octets(length)
-            } else {
-                Length::CutShort
-            }
-        }
-        Pair::Short => Length::CutShort,
-    }
+    let (n, _) = (Cursor { at: 1 }).get_u16(octets)?;
+    within(3 + usize::from(n), octets)
 }
 
 // The length of an unknown element, or the octets missing. No octet is cut short.
-pub fn generic_ie_length(octets: &[u8], tlve_start: u8) -> UnknownLength
+pub fn generic_ie_length(octets: &[u8], tlve_start: u8) -> Result<usize, CutShort>
     ensures { result ≡ unknown_of (missing tlve_start octets.now) (unknown_length tlve_start octets.now) }
 {
-    match unknown_length(octets, tlve_start) {
-        Length::Octets(n) => UnknownLength::Octets(n),
-        Length::CutShort => UnknownLength::CutShort(missing_octets(octets, tlve_start)),
-    }
+    unknown_length(octets, tlve_start).ok_or_else(|| CutShort {
+        missing: missing_octets(octets, tlve_start),
+    })
 }
 
 // The length alone.
-fn unknown_length(octets: &[u8], tlve_start: u8) -> Length
+fn unknown_length(octets: &[u8], tlve_start: u8) -> Option<usize>
     ensures { result ≡ length_of (unknown_length tlve_start octets.now) }
 {
-    if octets.len() == 0 {
-        return Length::CutShort;
-    }
-    let x = octets[0];
+    let &x = octets.first()?;
     match unknown_kind(x) {
-        UnknownKind::OneOctet => Length::Octets(1),
-        UnknownKind::Required => long_or_short(octets, x, tlve_start),
-        UnknownKind::Other => long_or_short(octets, x, tlve_start),
+        UnknownKind::OneOctet => Some(1),
+        UnknownKind::Required | UnknownKind::Other => long_or_short(octets, x, tlve_start),
     }
 }
 
 // From the start number on two length octets, below it one.
-fn long_or_short(octets: &[u8], x: u8, tlve_start: u8) -> Length
+fn long_or_short(octets: &[u8], x: u8, tlve_start: u8) -> Option<usize>
     ensures { result ≡ long_or_short x tlve_start octets.now }
 {
     if x < tlve_start {
@@ -115,45 +92,30 @@ fn long_or_short(octets: &[u8], x: u8, tlve_start: u8) -> Length
 fn missing_octets(octets: &[u8], tlve_start: u8) -> usize
     ensures { result ≡ missing tlve_start octets.now }
 {
-    if octets.len() == 0 {
-        return 1;
+    match octets.first() {
+        None => 1,
+        Some(&x) if x >= 0x80 => 0,
+        Some(&x) if x >= tlve_start => tlve_missing(octets),
+        Some(_) => tlv_missing(octets),
     }
-    let x = octets[0];
-    if x >= 0x80 {
-        return 0;
-    }
-    if x >= tlve_start {
-        return tlve_missing(octets);
-    }
-    tlv_missing(octets)
 }
 
 // Up to the length that one length octet states, or up to the end of that field where it is cut.
 fn tlv_missing(octets: &[u8]) -> usize
     ensures { result ≡ lacking tlv octets.now }
 {
-    match (Cursor { at: 1 }).get_u8(octets) {
-        Octet::Is(n, _) => missing_to(2 + (n as usize), octets),
-        Octet::Short => missing_to(2, octets),
-    }
+    let value = (Cursor { at: 1 })
+        .get_u8(octets)
+        .map_or(0, |(octet, _)| usize::from(octet));
+    (2 + value).saturating_sub(octets.len())
 }
 
 // The same with two length octets.
 fn tlve_missing(octets: &[u8]) -> usize
     ensures { result ≡ lacking tlv-e octets.now }
 {
-    match (Cursor { at: 1 }).get_u16(octets) {
-        Pair::Is(n, _) => missing_to(3 + (n as usize), octets),
-        Pair::Short => missing_to(3, octets),
-    }
-}
-
-// The octets missing up to an end.
-fn missing_to(end: usize, octets: &[u8]) -> usize
-    ensures { result ≡ end - length octets.now }
-{
-    if octets.len() < end {
-        return end - octets.len();
-    }
-    0
+    let value = (Cursor { at: 1 })
+        .get_u16(octets)
+        .map_or(0, |(number, _)| usize::from(number));
+    (3 + value).saturating_sub(octets.len())
 }

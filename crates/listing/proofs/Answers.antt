@@ -6,13 +6,17 @@ use mathlib.Core.Path.{◌≡◌, refl}
 use mathlib.Core.Bool.{Bool, true, false}
 use lib.Dec.{leb}
 use borrow.Author.Tests.{leb-true}
+use Rattle.std.specs.Prelude.{Ok, Err}
 use Rattle.definitions.specs.Basic.{pick}
-use Rattle.listing.specs.declared.Listed.{Listed}
+use Rattle.listing.specs.declared.NoRoom.{NoRoom}
 
-pub written-fits : (a b : ℕ) {n : ℕ} → Listed.Written n ≡ pick (leb a b) (Listed.Written a) (Listed.NoRoom a) → n ≤ b
+abbrev pub no_room : ℕ → NoRoom
+no_room n = record { need = n }
+
+pub written-fits : (a b : ℕ) {n : ℕ} → Ok n ≡ pick (leb a b) (Ok a) (Err (no_room a)) → n ≤ b
 written-fits a b {n} e = by (leb a b) refl e
   where
-    by : (t : Bool) → leb a b ≡ t → Listed.Written n ≡ pick t (Listed.Written a) (Listed.NoRoom a) → n ≤ b
+    by : (t : Bool) → leb a b ≡ t → Ok n ≡ pick t (Ok a) (Err (no_room a)) → n ≤ b
     by true h q =
         let i : n ≡ a = cc in
         omega (arith, leb-true a b h)

@@ -8,27 +8,34 @@ use mathlib.Core.Bool.{Bool, true}
 use mathlib.Core.Option.{Option, none, some}
 use lib.ListN.{length}
 use borrow.Author.Tests.{lt-ltb, le-ltb}
+use Rattle.std.specs.Prelude.{Option as Answered, Some, None, Result, Ok, Err, IsOk, is_err}
+use Rattle.std.specs.Result.{result_unwrap_or}
 use Rattle.definitions.specs.Rows.{rows_of}
 use Rattle.definitions.specs.Tables.{table_of, start_of}
 use Rattle.definitions.specs.Elements.{Element as DefElement, Parted, elements, cut_short, elements_of, before}
 use Rattle.definitions.specs.Listing.{ascii, heading, newline, lines, listed, listing_by}
-use Rattle.elements.specs.Nexts.{start_state, next_of}
+use Rattle.elements.specs.Nexts.{start_state, Next, next_of}
 use Rattle.elements.specs.declared.element.State.{State}
 use Rattle.elements.specs.declared.element.Element.{Element}
-use Rattle.elements.specs.declared.next.NextElement.{NextElement}
-use Rattle.elements.proofs.Nexts.{from, Nexts, from_start}
-use Rattle.elements.proofs.Walks.{back, next-step, Behind, behind, none_left}
+use Rattle.elements.specs.declared.element.Cut.{Cut}
+use Rattle.elements.proofs.Nexts.{from, Nexts, from_start, cuts, ends}
+use Rattle.elements.proofs.Walks.{back, next-step, Behind, behind, none_left, never-cut}
 use Rattle.wording.specs.Puts.{Put}
 use Rattle.wording.specs.Lines.{line_of}
-use Rattle.listing.specs.Parts.{Passing, step_at, parted_by, whole_of, listing_of, is_cut, is_refused, is_refused_of}
-use Rattle.listing.specs.declared.Whole.{Whole}
+use Rattle.elements.specs.Steps.{cut_of}
+use Rattle.listing.specs.Parts.{Passing, step_at, parted_by, whole_of, listing_of, is_refused, is_refused_of}
 use Rattle.wording.proofs.Puts.{joined, at-text, put-none, put-long}
 use Rattle.wording.proofs.Lines.{line-is, line-short}
 
 -- ---- a step
 
-pub stepped : (table : List ℕ) (option : Bool) (part : List ℕ) (s : State) → Passing table part → {n : NextElement} → n ≡ next_of (rows_of table) start_of option part s → back n ≡ step_at table option part s
+pub stepped : (table : List ℕ) (option : Bool) (part : List ℕ) (s : State) → Passing table part → {n : Next} → n ≡ next_of (rows_of table) start_of option part s → back n ≡ step_at table option part s
 stepped table option part s h e = next-step (rows_of table) start_of option part s h.passes (omega (arith, h.short)) e
+
+-- the element that `unwrap_or` gives
+pub some-step : (o : Result (Answered (Element × State)) Cut) {x : Element × State} → Some x ≡ result_unwrap_or o None → Ok (Some x) ≡ o
+some-step (Ok y) h = ap Ok h
+some-step (Err c) h = cc
 
 -- ---- by table number
 
@@ -44,10 +51,10 @@ refused-of number option part e = ap (λ (o : Option (List ℕ)). elim o [ none 
 
 -- ---- a part that is read whole
 
-pub whole-elements : (p : Parted) → whole_of p ≡ Whole.Elements → p ≡ elements (elements_of p)
+pub whole-elements : (p : Parted) → IsOk (whole_of p) → p ≡ elements (elements_of p)
 unfolding elements_of
 whole-elements (elements es) h = refl
-whole-elements (cut_short a x n m) h = let z : ◌≡◌ {A = ℕ} 0 1 = cc in absurd (omega arith)
+whole-elements (cut_short a x n m) h = cc
 
 module _ (table : List ℕ) (option : Bool) (part : List ℕ) where
   abbrev pub left : State → Parted
@@ -58,6 +65,11 @@ module _ (table : List ℕ) (option : Bool) (part : List ℕ) where
 
   pub left-start : left start_state ≡ parted_by table option part
   left-start = from_start (rows_of table) start_of option part
+
+  -- of a part that is read whole, `unwrap_or` gives none at the end alone
+  pub none-step : (s : State) {rest : List DefElement} → left s ≡ elements rest → s.at ≤ length part → (o : Result (Answered (Element × State)) Cut) → o ≡ step_at table option part s → None ≡ result_unwrap_or o None → left s ≡ elements []
+  none-step s r w (Ok y) e h = ends (rows_of table) start_of option part s w (ap Ok h ∙ e)
+  none-step s r w (Err c) e h = absurd (never-cut r (cuts (rows_of table) start_of option part s w e))
 
   -- ---- whether it is cut short
 
@@ -94,7 +106,7 @@ module _ (table : List ℕ) (option : Bool) (part : List ℕ) where
       pub bound : used ≤ first + 25 * s.at
       pub ends : (d : List ℕ) (k : ℕ) → Put out used (lines rest) d k → Put out₀ first all d k
 
-    pub written_start : (s : State) → s ≡ start_state → whole_of (parted_by table option part) ≡ Whole.Elements → Writing s out₀ first
+    pub written_start : (s : State) → s ≡ start_state → IsOk (whole_of (parted_by table option part)) → Writing s out₀ first
     written_start s e h =
         rw e (record {
           rest = elements_of (parted_by table option part);
@@ -135,34 +147,26 @@ module _ (table : List ℕ) (option : Bool) (part : List ℕ) where
   unfolding listing_by
   listing-read l = rw (le-ltb 4096 (length part) l)
 
-  pub listing-cut : {a x k r : ℕ} → length part ≤ 4096 → whole_of (parted_by table option part) ≡ Whole.Cut a x k r → heading ++ listed 0 (cut_short a x k r) ≡ listing_by table option part
+  pub listing-cut : {c : Cut} → length part ≤ 4096 → Err c ≡ whole_of (parted_by table option part) → heading ++ listed 0 (cut_short c.start c.first c.left c.missing) ≡ listing_by table option part
   unfolding listed
-  listing-cut {a} {x} {k} {r} l h = by (parted_by table option part) refl h
+  listing-cut {c} l h = by (parted_by table option part) refl h
     where
-      by : (p : Parted) → parted_by table option part ≡ p → whole_of p ≡ Whole.Cut a x k r → heading ++ listed 0 (cut_short a x k r) ≡ listing_by table option part
-      by (elements es) e q = let z : ◌≡◌ {A = ℕ} 0 1 = cc in absurd (omega arith)
+      by : (p : Parted) → parted_by table option part ≡ p → Err c ≡ whole_of p → heading ++ listed 0 (cut_short c.start c.first c.left c.missing) ≡ listing_by table option part
+      by (elements es) e q = cc
       by (cut_short b y n s) e q =
-          let i : a ≡ b = cc in
-          let j : x ≡ y = cc in
-          let m : k ≡ n = cc in
-          let o : r ≡ s = cc in
-          rw (i, j, m, o) (ap (λ (p : Parted). heading ++ listed (length part) p) (sym e) ∙ listing-read l)
+          let i : c ≡ cut_of b y n s = cc in
+          rw i (ap (λ (p : Parted). heading ++ listed (length part) p) (sym e) ∙ listing-read l)
 
-  pub listing-lines : length part ≤ 4096 → whole_of (parted_by table option part) ≡ Whole.Elements → heading ++ (lines (elements_of (parted_by table option part)) ++ listed (length part) (elements [])) ≡ listing_by table option part
-  unfolding listed lines elements_of
-  listing-lines l h = by (parted_by table option part) refl h
-    where
-      by : (p : Parted) → parted_by table option part ≡ p → whole_of p ≡ Whole.Elements → heading ++ (lines (elements_of (parted_by table option part)) ++ listed (length part) (elements [])) ≡ listing_by table option part
-      by (elements es) e q =
-          ap (λ (p : Parted). heading ++ (lines (elements_of p) ++ listed (length part) (elements []))) e
-          ∙ ap (λ (p : Parted). heading ++ listed (length part) p) (sym e)
-          ∙ listing-read l
-      by (cut_short b y n m) e q = let z : ◌≡◌ {A = ℕ} 0 1 = cc in absurd (omega arith)
+  pub listing-lines : length part ≤ 4096 → IsOk (whole_of (parted_by table option part)) → heading ++ (lines (elements_of (parted_by table option part)) ++ listed (length part) (elements [])) ≡ listing_by table option part
+  unfolding listed lines
+  listing-lines l h =
+      let e = whole-elements (parted_by table option part) h in
+      ap (λ (p : Parted). heading ++ listed (length part) p) (sym e) ∙ listing-read l
 
   -- ---- whether it is refused
 
   pub refused-long : 4096 < length part → true ≡ is_refused table option part
   refused-long l = rw (lt-ltb 4096 (length part) l)
 
-  pub refused-read : {w : Whole} → length part ≤ 4096 → w ≡ whole_of (parted_by table option part) → is_cut w ≡ is_refused table option part
-  refused-read l e = rw (le-ltb 4096 (length part) l) (ap is_cut e)
+  pub refused-read : {w : Result Unit Cut} → length part ≤ 4096 → w ≡ whole_of (parted_by table option part) → is_err w ≡ is_refused table option part
+  refused-read l e = rw (le-ltb 4096 (length part) l) (ap is_err e)

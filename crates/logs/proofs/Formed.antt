@@ -8,6 +8,8 @@ use mathlib.Core.Bool.{true, false, false≢true}
 use mathlib.Core.Option.{Option, none, some}
 use lib.ListN.{length, get_or, take, drop, length-take, length-drop, length-append}
 use lib.Seq.{get_or-drop}
+use Rattle.std.specs.Prelude.{Option as Answered, Some, None, Result, Err}
+use Rattle.std.specs.Option.{ok_or}
 use Rattle.definitions.specs.Basic.{is_none, concat}
 use Rattle.definitions.specs.Logs.{Placed, Count, count_at, put, kept_list, order_list, or_empty}
 use Rattle.definitions.proofs.Logs.{entry_of, kept-nil}
@@ -16,8 +18,7 @@ use Rattle.definitions.proofs.LogWalks.{left-begin, left_step, left-stop, left_e
 use Rattle.kept.proofs.Counts.{entry-like}
 use Rattle.logs.specs.Checks.{kept_octets, checked_logs, Checked}
 use Rattle.logs.specs.Walks.{with, Keeping}
-use Rattle.logs.specs.declared.Logs.{Logs}
-use Rattle.logs.specs.declared.Kept.{Kept}
+use Rattle.logs.specs.declared.MalformedLog.{MalformedLog}
 
 -- ---- the order log
 
@@ -31,12 +32,12 @@ none-put x (some xs) = refl
 with-put : (n : ℕ) (e : List ℕ) (o : Option (List (List ℕ))) → with (n + length e) o ≡ with n (put e o)
 unfolding with put concat
 with-put n e none = refl
-with-put n e (some es) = let z : n + length e + length (concat es) ≡ n + length (concat (e ∷ es)) = omega (arith, length-append e (concat es)) in ap Kept.Octets z
+with-put n e (some es) = let z : n + length e + length (concat es) ≡ n + length (concat (e ∷ es)) = omega (arith, length-append e (concat es)) in ap (λ (n : ℕ). Some n) z
 
 with_none : (o : Option (List (List ℕ))) → with 0 o ≡ kept_octets o
 unfolding with kept_octets
 with_none none = refl
-with_none (some es) = let z : 0 + length (concat es) ≡ length (concat es) = omega arith in ap Kept.Octets z
+with_none (some es) = let z : 0 + length (concat es) ≡ length (concat es) = omega arith in ap (λ (n : ℕ). Some n) z
 
 module _ (kept : List ℕ) where
   pub keeping-begun : Keeping kept 0 0
@@ -51,13 +52,13 @@ module _ (kept : List ℕ) where
         rw z
         (record { few = omega (arith, k.count, l.few); left = left_step kept_list kept _ l.left e k.within k.splits (rw n at (with-put octets e)) })
 
-    pub keeping-stopped : kept_list (drop at kept) ≡ none → Kept.Malformed ≡ kept_octets (kept_list kept)
+    pub keeping-stopped : kept_list (drop at kept) ≡ none → None ≡ kept_octets (kept_list kept)
     unfolding with
     keeping-stopped e = left-stop kept_list kept _ l.left e
 
-    pub keeping-ended : length kept ≤ at → Kept.Octets octets ≡ kept_octets (kept_list kept)
+    pub keeping-ended : length kept ≤ at → Some octets ≡ kept_octets (kept_list kept)
     unfolding with concat
-    keeping-ended h = let z : octets ≡ octets + length {A = ℕ} (concat []) = omega arith in ap Kept.Octets z ∙ left_end kept_list kept _ l.left kept-nil h
+    keeping-ended h = let z : octets ≡ octets + length {A = ℕ} (concat []) = omega arith in ap (λ (n : ℕ). Some n) z ∙ left_end kept_list kept _ l.left kept-nil h
 
     -- an entry that is as long as expected, behind a count of one octet
     pub keeping-like : (n : ℕ) → 1 ≤ n → n < 128 → n < length kept - at → get_or kept at 0 ≡ n → Keeping kept (at + (n + 1)) (octets + n)
@@ -70,27 +71,27 @@ module _ (kept : List ℕ) where
 -- ---- both
 
 module _ (o : Option (List Placed)) (k : Option (List (List ℕ))) where
-  pub first-bad : is_none o ≡ true → Logs.Order ≡ checked_logs o k
+  pub first-bad : is_none o ≡ true → Err MalformedLog.Order ≡ checked_logs o k
   unfolding is_none checked_logs
   first-bad h = by o h
     where
-      by : (x : Option (List Placed)) → is_none x ≡ true → Logs.Order ≡ checked_logs x k
+      by : (x : Option (List Placed)) → is_none x ≡ true → Err MalformedLog.Order ≡ checked_logs x k
       by none q = refl
       by (some ps) q = absurd (false≢true q)
 
   -- an order log that is well formed leaves the answer to the kept log
-  pub by-kept : {r : Kept} → is_none o ≡ false → r ≡ kept_octets k → elim r [ Kept.Octets n ↦ Logs.Formed n | Kept.Malformed ↦ Logs.Kept ] ≡ checked_logs o k
+  pub by-kept : {r : Answered ℕ} → is_none o ≡ false → r ≡ kept_octets k → ok_or r MalformedLog.Kept ≡ checked_logs o k
   unfolding is_none checked_logs kept_octets
   by-kept {r = r} h e = rw e (by o k h)
     where
-      by : (x : Option (List Placed)) (y : Option (List (List ℕ))) → is_none x ≡ false → elim (kept_octets y) [ Kept.Octets n ↦ Logs.Formed n | Kept.Malformed ↦ Logs.Kept ] ≡ checked_logs x y
+      by : (x : Option (List Placed)) (y : Option (List (List ℕ))) → is_none x ≡ false → ok_or (kept_octets y) MalformedLog.Kept ≡ checked_logs x y
       by none y q = absurd (false≢true (sym q))
       by (some ps) none q = refl
       by (some ps) (some es) q = refl
 
 -- ---- what each answer says
 
-pub logs-checked : (order kept : List ℕ) {r : Logs} → r ≡ checked_logs (order_list order) (kept_list kept) → Checked order kept r
+pub logs-checked : (order kept : List ℕ) {r : Result ℕ MalformedLog} → r ≡ checked_logs (order_list order) (kept_list kept) → Checked order kept r
 unfolding checked_logs
 logs-checked order kept e = rw e (by (order_list order) (kept_list kept) refl refl)
   where
@@ -105,27 +106,22 @@ pub record KeptIs (kept : List ℕ) (octets : ℕ) : Type 0 where
   pub kept-is : kept_list kept ≡ some es
   pub octets-are : octets ≡ length (concat es)
 
--- so that two answers that are equal say the same
-told : Kept → ℕ
-told Kept.Malformed = 0
-told (Kept.Octets n) = suc n
-
 module _ (kept : List ℕ) where
-  pub kept-told : {n : ℕ} → Kept.Octets n ≡ kept_octets (kept_list kept) → KeptIs kept n
-  unfolding kept_octets told
+  pub kept-told : {n : ℕ} → Some n ≡ kept_octets (kept_list kept) → KeptIs kept n
+  unfolding kept_octets
   kept-told {n = n} e = by (kept_list kept) refl e
     where
-      by : (o : Option (List (List ℕ))) → kept_list kept ≡ o → Kept.Octets n ≡ kept_octets o → KeptIs kept n
-      by none q z = let y = ap told z in absurd (omega arith)
-      by (some es) q z = let y = ap told z in record { es = es; kept-is = q; octets-are = omega arith }
+      by : (o : Option (List (List ℕ))) → kept_list kept ≡ o → Some n ≡ kept_octets o → KeptIs kept n
+      by none q z = cc
+      by (some es) q z = record { es = es; kept-is = q; octets-are = cc }
 
-  pub kept-not : Kept.Malformed ≡ kept_octets (kept_list kept) → kept_list kept ≡ none
-  unfolding kept_octets told
+  pub kept-not : None ≡ kept_octets (kept_list kept) → kept_list kept ≡ none
+  unfolding kept_octets
   kept-not e = by (kept_list kept) e
     where
-      by : (o : Option (List (List ℕ))) → Kept.Malformed ≡ kept_octets o → o ≡ none
+      by : (o : Option (List (List ℕ))) → None ≡ kept_octets o → o ≡ none
       by none z = refl
-      by (some es) z = let y = ap told z in absurd (omega arith)
+      by (some es) z = cc
 
 -- the octets of all elements are no more than those of the log
 module _ (kept : List ℕ) where

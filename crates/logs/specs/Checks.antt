@@ -1,20 +1,19 @@
 -- The check of both logs, by what they list.
-use Rattle.std.specs.Prelude.{ℕ, ◌≡◌, List, length}
+use Rattle.std.specs.Prelude.{ℕ, ◌≡◌, List, length, Option as Answered, Some, None, Result, Ok, Err}
 use Rattle.std.proofs.Math.Option.{Option, none, some}
 use Rattle.definitions.specs.Basic.{concat}
 use Rattle.definitions.specs.Logs.{Placed, kept_list, order_list}
-use Rattle.logs.specs.declared.Logs.{Logs}
-use Rattle.logs.specs.declared.Kept.{Kept}
+use Rattle.logs.specs.declared.MalformedLog.{MalformedLog}
 
-unfoldable pub kept_octets : Option (List (List ℕ)) → Kept
-kept_octets none = Kept.Malformed
-kept_octets (some es) = Kept.Octets (length (concat es))
+unfoldable pub kept_octets : Option (List (List ℕ)) → Answered ℕ
+kept_octets none = None
+kept_octets (some es) = Some (length (concat es))
 
 -- the first log that is malformed; else the octets of all kept elements
-unfoldable pub checked_logs : Option (List Placed) → Option (List (List ℕ)) → Logs
-checked_logs none kept = Logs.Order
-checked_logs (some ps) none = Logs.Kept
-checked_logs (some ps) (some es) = Logs.Formed (length (concat es))
+unfoldable pub checked_logs : Option (List Placed) → Option (List (List ℕ)) → Result ℕ MalformedLog
+checked_logs none kept = Err MalformedLog.Order
+checked_logs (some ps) none = Err MalformedLog.Kept
+checked_logs (some ps) (some es) = Ok (length (concat es))
 
 -- what each answer says
 
@@ -26,7 +25,7 @@ pub record Formed (order kept : List ℕ) (octets : ℕ) : Type 0 where
   pub kept-is : kept_list kept ≡ some es
   pub octets-are : octets ≡ length (concat es)
 
-abbrev pub Checked : List ℕ → List ℕ → Logs → Type 0
-Checked order kept (Logs.Formed n) = Formed order kept n
-Checked order kept Logs.Order = order_list order ≡ none
-Checked order kept Logs.Kept = ((ps : List Placed) × (order_list order ≡ some ps)) × (kept_list kept ≡ none)
+abbrev pub Checked : List ℕ → List ℕ → Result ℕ MalformedLog → Type 0
+Checked order kept (Ok n) = Formed order kept n
+Checked order kept (Err MalformedLog.Order) = order_list order ≡ none
+Checked order kept (Err MalformedLog.Kept) = ((ps : List Placed) × (order_list order ≡ some ps)) × (kept_list kept ≡ none)

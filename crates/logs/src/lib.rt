@@ -9,31 +9,20 @@ ghost use Rattle.logs.specs.Checks.{kept_octets, checked_logs};
 ghost use Rattle.logs.specs.Walks.{Keeping};
 
 use kept::{Count, MOST_LOG, entry_at, too_long};
-use order::{Front, entry_len, front_at};
+use order::{entry_len, front_at};
 
-// Two logs that are well formed, with the octets of all kept elements; or the first that is not.
-#[derive(Clone, Copy)]
-pub enum Logs {
-    Formed(usize),
+// Which of two logs is malformed.
+#[derive(Clone, Copy, PartialEq, Eq)]
+pub enum MalformedLog {
     Order,
     Kept,
-}
-
-// The octets of all elements of a kept log.
-#[derive(Clone, Copy)]
-pub enum Kept {
-    Octets(usize),
-    Malformed,
 }
 
 // Whether a log is too long, or a used count above its buffer.
 pub fn logs_long(order: &[u8], order_used: usize, kept: &[u8], kept_used: usize) -> bool
     ensures { result ≡ (too_long most_log (used_of order.now order_used) || too_long most_log (used_of kept.now kept_used)) }
 {
-    if too_long(order, order_used, MOST_LOG) {
-        return true;
-    }
-    too_long(kept, kept_used, MOST_LOG)
+    too_long(order, order_used, MOST_LOG) || too_long(kept, kept_used, MOST_LOG)
 }
 
 // Whether an order log is malformed.
@@ -42,20 +31,16 @@ pub fn order_malformed(order: &[u8]) -> bool
 {
     let mut at = 0;
     while at < order.len() {
-        match front_at(&order[at..]) {
-            Front::Is(entry) => {
-                at += entry_len(entry);
-            }
-            Front::Not => {
-                return true;
-            }
-        }
+        let Some(entry) = front_at(&order[at..]) else {
+            return true;
+        };
+        at += entry_len(entry);
     }
     false
 }
 
 // Where a walk over a kept log is, and the octets of the elements before it.
-#[derive(Clone, Copy)]
+#[derive(Clone, Copy, PartialEq, Eq)]
 pub struct Along {
     pub at: usize,
     pub octets: usize,
@@ -67,61 +52,41 @@ fn past_like(kept: &[u8], from: Along, n: usize) -> Along
     requires { Keeping kept.now from.at from.octets }
     ensures { Keeping kept.now result.at result.octets × (from.at ≤ result.at) }
 {
-    if n < 1 {
-        return from;
+    let mut along = from;
+    if n < 1 || n > 127 {
+        return along;
     }
-    if n > 127 {
-        return from;
+    while kept.len() - along.at > n && kept[along.at] == n as u8 {
+        along = Along {
+            at: along.at + (n + 1),
+            octets: along.octets + n,
+        };
     }
-    let mut at = from.at;
-    let mut octets = from.octets;
-    while kept.len() - at > n {
-        if kept[at] != (n as u8) {
-            return Along { at, octets };
-        }
-        octets += n;
-        at += n + 1;
-    }
-    Along { at, octets }
+    along
 }
 
-// A kept log measured to its end.
-pub fn kept_len(kept: &[u8]) -> Kept
+// The octets of all elements of a kept log, which is measured to its end; None where it is malformed.
+pub fn kept_len(kept: &[u8]) -> Option<usize>
     ensures { result ≡ kept_octets (kept_list kept.now) }
 {
-    let mut at = 0;
-    let mut octets = 0;
-    while at < kept.len() {
-        match entry_at(&kept[at..]) {
-            Count::Is(value, took) => {
-                let along = past_like(
-                    kept,
-                    Along {
-                        at: at + (took + value),
-                        octets: octets + value,
-                    },
-                    value,
-                );
-                at = along.at;
-                octets = along.octets;
-            }
-            Count::Not => {
-                return Kept::Malformed;
-            }
-        }
+    let mut along = Along { at: 0, octets: 0 };
+    while along.at < kept.len() {
+        let Count { value, took } = entry_at(&kept[along.at..])?;
+        let next = Along {
+            at: along.at + (took + value),
+            octets: along.octets + value,
+        };
+        along = past_like(kept, next, value);
     }
-    Kept::Octets(octets)
+    Some(along.octets)
 }
 
-// The order log first, then the kept log.
-pub fn check_logs(order: &[u8], kept: &[u8]) -> Logs
+// Two logs: the octets of all kept elements, or the first of the two that is malformed, the order log before the kept log.
+pub fn check_logs(order: &[u8], kept: &[u8]) -> Result<usize, MalformedLog>
     ensures { result ≡ checked_logs (order_list order.now) (kept_list kept.now) }
 {
     if order_malformed(order) {
-        return Logs::Order;
+        return Err(MalformedLog::Order);
     }
-    match kept_len(kept) {
-        Kept::Octets(octets) => Logs::Formed(octets),
-        Kept::Malformed => Logs::Kept,
-    }
+    kept_len(kept).ok_or(MalformedLog::Kept)
 }

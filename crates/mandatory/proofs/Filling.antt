@@ -8,12 +8,14 @@ use mathlib.Core.List.{List, [], ◌∷◌}
 use lib.ListN.{length, drop, drop_of_length-le, length-drop}
 use lib.Seq.{drop-drop}
 use Rattle.definitions.specs.Basic.{over, over_at}
-use Rattle.definitions.specs.Mandatory.{MandatoryRow, mandatory_row_at, mandatory_form, found_by}
+use Rattle.definitions.specs.Mandatory.{MandatoryRow, mandatory_row_at}
 use Rattle.definitions.proofs.Lists.{over_none, over-next, length-over_at}
 use Rattle.rows.proofs.Steps.{mandatory-drop}
-use Rattle.mandatory_ie.specs.Founds.{found_as}
-use Rattle.mandatory.specs.Reads.{rows_by, rows_from}
-use Rattle.mandatory_ie.specs.declared.Fault.{Fault}
+use Rattle.std.specs.Prelude.{Result, Ok, Err}
+use borrow.Author.Tests.{le-leb}
+use Rattle.rows.specs.Lent.{put_row}
+use Rattle.mandatory.specs.Reads.{found_in, rows_by, rows_from}
+use Rattle.mandatory_ie.specs.declared.Lacking.{Lacking}
 use Rattle.mandatory_ie.specs.declared.Found.{Found}
 use Rattle.mandatory_ie.proofs.Finding.{found_within}
 
@@ -36,38 +38,37 @@ module _ (t : List MandatoryRow) (part rows₀ : List ℕ) where
     filled-all h = sym (over_none (3 * k) rows) ∙ rw (drop_of_length-le t {i = k} h) at i.fills
 
     module _ (h : k < length t) where
-      abbrev found : Found
-      found = found_as (mandatory_row_at t k) (found_by (mandatory_form (mandatory_row_at t k)) (drop at part))
+      abbrev found : Result Found Lacking
+      found = found_in t k (drop at part)
 
       step : over_at (3 * k) (rows_by at found (λ took. rows_from (at + took) (drop (suc k) t) (drop took (drop at part)))) rows ≡ over (rows_from 0 t part) rows₀
       unfolding rows_from
       step = rw (mandatory-drop t k h) at i.fills
 
-      pub filled-missing : found ≡ Found.Missing → rows ≡ over (rows_from 0 t part) rows₀
-      filled-missing e = sym (over_none (3 * k) rows) ∙ rw e at step
+      pub filled-lacking : {l : Lacking} → found ≡ Err l → rows ≡ over (rows_from 0 t part) rows₀
+      filled-lacking e = sym (over_none (3 * k) rows) ∙ rw e at step
 
-      pub filled-truncated : found ≡ Found.Truncated → rows ≡ over (rows_from 0 t part) rows₀
-      filled-truncated e = sym (over_none (3 * k) rows) ∙ rw e at step
-
-      module _ {m l took : ℕ} {fault : Fault} (e : found ≡ Found.Value m l took fault) where
+      module _ (f : Found) (e : found ≡ Ok f) where
         -- what a value's numbers are below
-        pub small : length part ≤ 65535 → (at + m < 65536) × (l < 65536)
+        pub small : length part ≤ 65535 → (at + f.start < 65536) × (f.len < 65536)
         small s =
-            let w = found_within (mandatory_row_at t k) (drop at part) e in
+            let w = found_within (mandatory_row_at t k) (drop at part) f e in
             (omega (arith, w.1, length-drop at part, i.inside), omega (arith, w.1, length-drop at part))
 
-        pub filled_on : {rows' : List ℕ} → rows' ≡ over_at (3 * k) (1 ∷ (at + m) ∷ l ∷ []) rows → Filling t part rows₀ (k + 1) (at + took) rows'
-        filled_on {rows'} q =
-            let w = found_within (mandatory_row_at t k) (drop at part) e in
-            let s : drop took (drop at part) ≡ drop (at + took) part = drop-drop took at part in
-            let f : 3 * k + 3 ≤ length rows = omega (arith, i.room, i.size) in
-            let b : List ℕ = rows_from (at + took) (drop (suc k) t) (drop (at + took) part) in
+        pub filled_on : {rows' : List ℕ} → rows' ≡ put_row (3 * k) (1 ∷ (at + f.start) ∷ f.len ∷ []) rows → Filling t part rows₀ (k + 1) (at + f.took) rows'
+        unfolding put_row
+        filled_on {rows'} p =
+            let w = found_within (mandatory_row_at t k) (drop at part) f e in
+            let s : drop f.took (drop at part) ≡ drop (at + f.took) part = drop-drop f.took at part in
+            let g : 3 * k + 3 ≤ length rows = omega (arith, i.room, i.size) in
+            let q : rows' ≡ over_at (3 * k) (1 ∷ (at + f.start) ∷ f.len ∷ []) rows = rw (le-leb (3 * k + 3) (length rows) g) at p in
+            let b : List ℕ = rows_from (at + f.took) (drop (suc k) t) (drop (at + f.took) part) in
             let z : 3 * (k + 1) ≡ 3 * k + 3 = omega arith in
-            let o : over_at (3 * k + 3) b (over_at (3 * k) (1 ∷ (at + m) ∷ l ∷ []) rows) ≡ over_at (3 * k) (1 ∷ (at + m) ∷ l ∷ b) rows = over-next (3 * k) (1 ∷ (at + m) ∷ l ∷ []) b rows f in
+            let o : over_at (3 * k + 3) b (over_at (3 * k) (1 ∷ (at + f.start) ∷ f.len ∷ []) rows) ≡ over_at (3 * k) (1 ∷ (at + f.start) ∷ f.len ∷ b) rows = over-next (3 * k) (1 ∷ (at + f.start) ∷ f.len ∷ []) b rows g in
             record {
               within = omega arith;
               inside = omega (arith, w.0, length-drop at part, i.inside);
-              size = ap length q ∙ length-over_at (3 * k) (1 ∷ (at + m) ∷ l ∷ []) rows f ∙ i.size;
+              size = ap length q ∙ length-over_at (3 * k) (1 ∷ (at + f.start) ∷ f.len ∷ []) rows g ∙ i.size;
               room = i.room;
               fills = rw (z, add-one k, q) (o ∙ rw (e, s) at step);
             }

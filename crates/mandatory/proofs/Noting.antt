@@ -9,6 +9,7 @@ use lib.ListN.{take, drop, replicate, length-set}
 use lib.Seq.{take-suc-set, drop-set-lt, drop-drop}
 use Rattle.mandatory.specs.Notes.{note, no_notes, flat, notes_as, with_note, with_fault, Tidy}
 use Rattle.mandatory.specs.Reads.{note_of}
+use Rattle.std.specs.Prelude.{Option, Some, None}
 use Rattle.mandatory_ie.specs.declared.Fault.{Fault}
 use Rattle.mandatory.specs.declared.notes.Note.{Note}
 use Rattle.mandatory.specs.declared.notes.Notes.{Notes}
@@ -26,7 +27,7 @@ flat_append [] b = refl
 flat_append (n ∷ a) b = ap (λ (s : List ℕ). n.row ∷ n.number ∷ s) (flat_append a b)
 
 -- what a fault noted leaves
-pub record Noted (n : Notes) (k : ℕ) (f : Fault) : Type 0 where
+pub record Noted (n : Notes) (k : ℕ) (f : Option Fault) : Type 0 where
   pub tidy : Tidy (with_fault n k f)
   pub tells : notes_as (with_fault n k f) ≡ notes_as n ++ note_of k f
   pub count : (with_fault n k f).count ≤ n.count + 1
@@ -51,8 +52,8 @@ module _ (n : Notes) (t : Tidy n) (h : n.count < 32) where
       rw (add-one n.count, take-suc-set n.notes n.count (note k m) (omega (arith, t.size)))
       (flat_append (take n.count n.notes) (note k m ∷ []))
 
-  pub noted : (k : ℕ) (f : Fault) → Noted n k f
+  pub noted : (k : ℕ) (f : Option Fault) → Noted n k f
   unfolding with_note
-  noted k Fault.Nothing = record { tidy = t; tells = sym (append-nil (notes_as n)); count = omega arith }
-  noted k Fault.TooShort = record { tidy = tidy-with k 8; tells = tells-with k 8; count = omega arith }
-  noted k Fault.Syntax = record { tidy = tidy-with k 9; tells = tells-with k 9; count = omega arith }
+  noted k None = record { tidy = t; tells = sym (append-nil (notes_as n)); count = omega arith }
+  noted k (Some Fault.TooShort) = record { tidy = tidy-with k 8; tells = tells-with k 8; count = omega arith }
+  noted k (Some Fault.Syntax) = record { tidy = tidy-with k 9; tells = tells-with k 9; count = omega arith }

@@ -4,14 +4,17 @@ use Prim.Native.Nat.{ℕ, suc, ◌+◌, ◌≤◌}
 use native.Mathlib.Omega.{arith}
 use mathlib.Core.Path.{◌≡◌, refl, sym, ◌∙◌}
 use mathlib.Core.List.{List, [], ◌∷◌, ◌++◌, append-nil, append_assoc}
-use mathlib.Core.Bool.{Bool, true, false, not}
+use mathlib.Core.Bool.{Bool, true, false}
 use mathlib.Core.Option.{Option, none, some}
 use lib.ListN.{drop}
 use Rattle.definitions.specs.Basic.{pick, Answer, answer}
 use Rattle.definitions.specs.Mandatory.{MandatoryRow, mandatory_form, Found as DefFound, missing, truncated, value, found_by, fault_of, Rowed, stopped, noted, rowed}
 use Rattle.definitions.proofs.Mandatories.{by-fault, row-missing, row-truncated, row-value}
 use Rattle.mandatory_ie.specs.Founds.{fault_as}
-use Rattle.mandatory.specs.Reads.{judged_by, judged_from, rows_by, rows_from}
+use Rattle.std.specs.Prelude.{Result, Ok, Err}
+use Rattle.mandatory.specs.Reads.{refused_by, refused_or, judged_by, judged_from, rows_by, rows_from}
+use Rattle.mandatory_ie.specs.declared.Fault.{Fault}
+use Rattle.mandatory_ie.specs.declared.Lacking.{Lacking}
 use Rattle.mandatory_ie.specs.declared.Found.{Found}
 
 abbrev pub said_by : Option Answer → Answer → Answer
@@ -41,7 +44,7 @@ module _ (lenient : Bool) (k at : ℕ) (rs : List MandatoryRow) (s rows notes : 
   abbrev rowed_on : ℕ → ℕ → ℕ → List ℕ → Rowed
   rowed_on h n took = rowed lenient (suc k) (at + took) rs (drop took s) (rows ++ (1 ∷ (at + h) ∷ n ∷ []))
 
-  abbrev Here : Rowed → Found → Type 0
+  abbrev Here : Rowed → Result Found Lacking → Type 0
   Here o f = Same o (judged_by lenient k notes f said_on) rows (rows_by at f left_on)
 
   halted : (number : ℕ) {a : Answer} {left : List ℕ} → 6 ≤ number → answer number (k ∷ notes) ≡ a → Same (stopped number k at rows notes) a rows left
@@ -52,18 +55,20 @@ module _ (lenient : Bool) (k at : ℕ) (rs : List MandatoryRow) (s rows notes : 
     on : (notes' : List ℕ) → Same (rowed_on h n took notes') (said_on took notes') rows (1 ∷ (at + h) ∷ n ∷ left_on took)
     on notes' = record { number = (i notes').number; said = (i notes').said; leaves = λ p. (i notes').leaves p ∙ append_assoc rows (1 ∷ (at + h) ∷ n ∷ []) (left_on took) }
 
-    faulty :
-        (number : ℕ) → 6 ≤ number → (b : Bool)
-        → Same (pick b (rowed_on h n took (notes ++ (k ∷ number ∷ []))) (stopped number k at rows notes)) (pick (not b) (answer number (k ∷ notes)) (said_on took (notes ++ (k ∷ number ∷ [])))) rows (1 ∷ (at + h) ∷ n ∷ left_on took)
-    faulty number l true = on (notes ++ (k ∷ number ∷ []))
-    faulty number l false = halted number l refl
+    faulty-short : (b : Bool) → Same (pick b (rowed_on h n took (notes ++ (k ∷ 8 ∷ []))) (stopped 8 k at rows notes)) (refused_or k notes (refused_by b Fault.TooShort k) (said_on took (notes ++ (k ∷ 8 ∷ [])))) rows (1 ∷ (at + h) ∷ n ∷ left_on took)
+    faulty-short true = on (notes ++ (k ∷ 8 ∷ []))
+    faulty-short false = halted 8 (omega arith) refl
 
-    valued : (r : MandatoryRow) (v : List ℕ) → Here (noted lenient k (fault_of r took v) notes (rowed_on h n took) (λ fault. stopped fault k at rows notes)) (Found.Value h n took (fault_as (fault_of r took v)))
+    faulty-syntax : (b : Bool) → Same (pick b (rowed_on h n took (notes ++ (k ∷ 9 ∷ []))) (stopped 9 k at rows notes)) (refused_or k notes (refused_by b Fault.Syntax k) (said_on took (notes ++ (k ∷ 9 ∷ [])))) rows (1 ∷ (at + h) ∷ n ∷ left_on took)
+    faulty-syntax true = on (notes ++ (k ∷ 9 ∷ []))
+    faulty-syntax false = halted 9 (omega arith) refl
+
+    valued : (r : MandatoryRow) (v : List ℕ) → Here (noted lenient k (fault_of r took v) notes (rowed_on h n took) (λ fault. stopped fault k at rows notes)) (Ok (record { start = h; len = n; took = took; fault = fault_as (fault_of r took v) }))
     unfolding noted
     valued r v =
         by-fault
-        (λ o. Here (noted lenient k o notes (rowed_on h n took) (λ fault. stopped fault k at rows notes)) (Found.Value h n took (fault_as o)))
-        r took v (rw append-nil (on notes)) (faulty 8 (omega arith) lenient) (faulty 9 (omega arith) lenient)
+        (λ o. Here (noted lenient k o notes (rowed_on h n took) (λ fault. stopped fault k at rows notes)) (Ok (record { start = h; len = n; took = took; fault = fault_as o })))
+        r took v (rw append-nil (on notes)) (faulty-short lenient) (faulty-syntax lenient)
 
 pub same : (lenient : Bool) (k at : ℕ) (rs : List MandatoryRow) (s rows notes : List ℕ) → Same (rowed lenient k at rs s rows notes) (judged_from lenient k at rs s notes) rows (rows_from at rs s)
 unfolding rowed judged_from rows_from

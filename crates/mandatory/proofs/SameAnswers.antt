@@ -6,12 +6,13 @@ use mathlib.Core.Path.{◌≡◌, refl, ap, sym, ◌∙◌}
 use mathlib.Core.List.{List, [], ◌∷◌, ◌++◌}
 use lib.ListN.{length, get_or, take, drop, replicate, take-append-drop}
 use lib.Seq.{length-take-le, drop-append_seam}
+use Rattle.std.specs.Prelude.{Result, Ok, Err}
 use Rattle.definitions.specs.Basic.{Answer}
 use Rattle.mandatory.specs.Notes.{note, flat, notes_as, Tidy}
 use Rattle.mandatory.specs.Reads.{number_of, values_of, read_as}
 use Rattle.mandatory.specs.declared.notes.Note.{Note}
 use Rattle.mandatory.specs.declared.notes.Notes.{Notes}
-use Rattle.mandatory.specs.declared.decode.Mandated.{Mandated}
+use Rattle.mandatory.specs.declared.decode.MandatoryError.{MandatoryError}
 use Rattle.mandatory.specs.declared.decode.MandatoryRead.{MandatoryRead}
 
 -- ---- the notes
@@ -39,36 +40,36 @@ notes-back n t =
 -- ---- the answer
 
 -- the answer, and the numbers of its notes, by document 01's number and values
-mandated-back : ℕ → List ℕ → Mandated
-mandated-back zero vs = Mandated.Done (get_or vs 0 0)
-mandated-back (suc zero) vs = Mandated.NoRoom
-mandated-back (suc (suc zero)) vs = Mandated.NoRoom
-mandated-back (suc (suc (suc zero))) vs = Mandated.TooLong
-mandated-back (suc (suc (suc (suc zero)))) vs = Mandated.BadTable (get_or vs 0 0)
-mandated-back (suc (suc (suc (suc (suc zero))))) vs = Mandated.NoTable
-mandated-back (suc (suc (suc (suc (suc (suc zero)))))) vs = Mandated.Missing (get_or vs 0 0)
-mandated-back (suc (suc (suc (suc (suc (suc (suc zero))))))) vs = Mandated.Truncated (get_or vs 0 0)
-mandated-back (suc (suc (suc (suc (suc (suc (suc (suc zero)))))))) vs = Mandated.TooShort (get_or vs 0 0)
-mandated-back (suc (suc (suc (suc (suc (suc (suc (suc (suc n))))))))) vs = Mandated.Syntax (get_or vs 0 0)
+mandated-back : ℕ → List ℕ → Result ℕ MandatoryError
+mandated-back zero vs = Ok (get_or vs 0 0)
+mandated-back (suc zero) vs = Err MandatoryError.NoRoom
+mandated-back (suc (suc zero)) vs = Err MandatoryError.NoRoom
+mandated-back (suc (suc (suc zero))) vs = Err MandatoryError.TooLong
+mandated-back (suc (suc (suc (suc zero)))) vs = Err (MandatoryError.BadTable (get_or vs 0 0))
+mandated-back (suc (suc (suc (suc (suc zero))))) vs = Err MandatoryError.NoTable
+mandated-back (suc (suc (suc (suc (suc (suc zero)))))) vs = Err (MandatoryError.Missing (get_or vs 0 0))
+mandated-back (suc (suc (suc (suc (suc (suc (suc zero))))))) vs = Err (MandatoryError.Truncated (get_or vs 0 0))
+mandated-back (suc (suc (suc (suc (suc (suc (suc (suc zero)))))))) vs = Err (MandatoryError.TooShort (get_or vs 0 0))
+mandated-back (suc (suc (suc (suc (suc (suc (suc (suc (suc n))))))))) vs = Err (MandatoryError.Syntax (get_or vs 0 0))
 
-mandated-found : (m : Mandated) (s : List ℕ) → mandated-back (number_of m) (values_of m ++ s) ≡ m
+mandated-found : (m : Result ℕ MandatoryError) (s : List ℕ) → mandated-back (number_of m) (values_of m ++ s) ≡ m
 unfolding mandated-back
-mandated-found (Mandated.Done n) s = refl
-mandated-found Mandated.NoRoom s = refl
-mandated-found Mandated.TooLong s = refl
-mandated-found (Mandated.BadTable k) s = refl
-mandated-found Mandated.NoTable s = refl
-mandated-found (Mandated.Missing k) s = refl
-mandated-found (Mandated.Truncated k) s = refl
-mandated-found (Mandated.TooShort k) s = refl
-mandated-found (Mandated.Syntax k) s = refl
+mandated-found (Ok n) s = refl
+mandated-found (Err MandatoryError.NoRoom) s = refl
+mandated-found (Err MandatoryError.TooLong) s = refl
+mandated-found (Err (MandatoryError.BadTable k)) s = refl
+mandated-found (Err MandatoryError.NoTable) s = refl
+mandated-found (Err (MandatoryError.Missing k)) s = refl
+mandated-found (Err (MandatoryError.Truncated k)) s = refl
+mandated-found (Err (MandatoryError.TooShort k)) s = refl
+mandated-found (Err (MandatoryError.Syntax k)) s = refl
 
-rest-found : (m : Mandated) (s : List ℕ) → drop (length (values_of m)) (values_of m ++ s) ≡ s
+rest-found : (m : Result ℕ MandatoryError) (s : List ℕ) → drop (length (values_of m)) (values_of m ++ s) ≡ s
 rest-found m s = drop-append_seam (values_of m) s
 
 read_back : Answer → MandatoryRead
 read_back a =
-    let m : Mandated = mandated-back a.number a.values in
+    let m : Result ℕ MandatoryError = mandated-back a.number a.values in
     record { answer = m; notes = notes-of (unflat (drop (length (values_of m)) a.values)) }
 
 read_found : (r : MandatoryRead) → Tidy r.notes → read_back (read_as r) ≡ r

@@ -1,5 +1,5 @@
 -- Notes: a row and a number each, in a fixed array whose front is used.
-use Rattle.std.specs.Prelude.{ℕ, ◌+◌, ◌-◌, ◌≤◌, ◌≡◌, List, [], ◌∷◌, length, take, drop, set, replicate}
+use Rattle.std.specs.Prelude.{ℕ, ◌+◌, ◌-◌, ◌≤◌, ◌≡◌, List, [], ◌∷◌, length, take, drop, set, replicate, Option as Answered, Some, None}
 use Rattle.mandatory_ie.specs.declared.Fault.{Fault}
 use Rattle.mandatory.specs.declared.notes.Note.{Note}
 use Rattle.mandatory.specs.declared.notes.Notes.{Notes}
@@ -23,10 +23,10 @@ unfoldable pub with_note : Notes → ℕ → ℕ → Notes
 with_note n k number = record { count = n.count + 1; notes = set n.notes n.count (note k number) }
 
 -- a row's fault, noted
-abbrev pub with_fault : Notes → ℕ → Fault → Notes
-with_fault n k Fault.Nothing = n
-with_fault n k Fault.TooShort = with_note n k 8
-with_fault n k Fault.Syntax = with_note n k 9
+abbrev pub with_fault : Notes → ℕ → Answered Fault → Notes
+with_fault n k None = n
+with_fault n k (Some Fault.TooShort) = with_note n k 8
+with_fault n k (Some Fault.Syntax) = with_note n k 9
 
 -- all that is not used is zero
 pub record Tidy (n : Notes) : Type 0 where

@@ -1,21 +1,21 @@
 // Reading mandatory rows: first what is wrong with them, then what they leave in the lent rows.
-ghost use Rattle.std.specs.Prelude.{◌≡◌, [], ◌∷◌, ◌+◌, ◌*◌, ◌≤◌, ◌<◌, eqb, length};
+ghost use Rattle.std.specs.Prelude.{◌≡◌, [], ◌*◌, ◌≤◌, length, Err};
 ghost use Rattle.std.proofs.Math.Option.{none};
-ghost use Rattle.definitions.specs.Basic.{over, over_at};
+ghost use Rattle.definitions.specs.Basic.{over};
 ghost use Rattle.definitions.specs.Mandatory.{mandatory_rows_of, first_bad_mandatory, mandatory_reading};
 ghost use Rattle.mandatory.specs.Notes.{no_notes};
-ghost use Rattle.mandatory.specs.Reads.{number_of, refuses_by, mandated_for, judged_from, rows_from, Judges, Reads};
+ghost use Rattle.mandatory.specs.Reads.{lacks, refused_by, judged_row, found_in, judged_from, rows_from, Judges, Reads};
 
 use crate::notes::{Notes, no_notes, with_fault};
-use checks::{Checked, check_mandatory_table};
-use mandatory_ie::{Fault, Found, decode_mandatory_ie};
+use checks::check_mandatory_table;
+use mandatory_ie::{Fault, Found, Lacking, decode_mandatory_ie};
 use octets::MOST_OCTETS;
 use rows::columns::mandatory_rows;
+use rows::lent::put_row;
 
-// What reading answers: the octets read, or a refusal; the row that is refused counts from 0.
-#[derive(Clone, Copy)]
-pub enum Mandated {
-    Done(usize),
+// Why mandatory rows are not read; the row that is refused counts from 0.
+#[derive(Clone, Copy, PartialEq, Eq)]
+pub enum MandatoryError {
     NoRoom,
     TooLong,
     BadTable(usize),
@@ -26,32 +26,45 @@ pub enum Mandated {
     Syntax(usize),
 }
 
-// The answer, with the notes of lenient reading up to there.
+// The octets read or a refusal, with the notes of lenient reading up to there.
 #[derive(Clone, Copy)]
 pub struct MandatoryRead {
-    pub answer: Mandated,
+    pub answer: Result<usize, MandatoryError>,
     pub notes: Notes,
 }
 
-// Whether a fault refuses: strict, any does; lenient, none.
-fn refuses(lenient: bool, fault: Fault) -> bool
-    ensures { result ≡ refuses_by lenient fault }
+// The refusal of a row that has no value.
+fn lacks(lacking: Lacking, row: usize) -> MandatoryError
+    ensures { result ≡ lacks lacking row }
 {
-    match fault {
-        Fault::Nothing => false,
-        Fault::TooShort => !lenient,
-        Fault::Syntax => !lenient,
+    match lacking {
+        Lacking::Missing => MandatoryError::Missing(row),
+        Lacking::Truncated => MandatoryError::Truncated(row),
     }
 }
 
-// The refusal of a row by its fault; a row without one is not refused.
-fn refused_by(fault: Fault, row: usize) -> Mandated
-    ensures { result ≡ mandated_for fault row }
+// The refusal of a row by its fault: strict, any refuses; lenient, none.
+fn refused_by(lenient: bool, fault: Fault, row: usize) -> Option<MandatoryError>
+    ensures { result ≡ refused_by lenient fault row }
 {
     match fault {
-        Fault::Nothing => Mandated::Done(row),
-        Fault::TooShort => Mandated::TooShort(row),
-        Fault::Syntax => Mandated::Syntax(row),
+        _ if lenient => None,
+        Fault::TooShort => Some(MandatoryError::TooShort(row)),
+        Fault::Syntax => Some(MandatoryError::Syntax(row)),
+    }
+}
+
+// What a row finds, or why that ends the reading.
+fn judge_row(left: &[u8], table: &[u32], lenient: bool, row: usize) -> Result<Found, MandatoryError>
+    ensures { result ≡ judged_row lenient row (found_in (mandatory_rows_of table.now) row left.now) }
+{
+    let found = decode_mandatory_ie(left, table, row).map_err(|lacking| lacks(lacking, row))?;
+    match found
+        .fault
+        .and_then(|fault| refused_by(lenient, fault, row))
+    {
+        Some(error) => Err(error),
+        None => Ok(found),
     }
 }
 
@@ -60,51 +73,26 @@ fn judge(part: &[u8], table: &[u32], lenient: bool) -> MandatoryRead
     requires { length (mandatory_rows_of table.now) ≤ 32 }
     ensures { Judges (judged_from lenient 0 0 (mandatory_rows_of table.now) part.now []) result }
 {
-    let n = mandatory_rows(table);
     let mut at = 0;
     let mut notes = no_notes();
-    let mut k = 0;
-    while k < n {
-        match decode_mandatory_ie(&part[at..], table, k) {
-            Found::Missing => {
+    for row in 0..mandatory_rows(table) {
+        match judge_row(&part[at..], table, lenient, row) {
+            Err(error) => {
                 return MandatoryRead {
-                    answer: Mandated::Missing(k),
+                    answer: Err(error),
                     notes,
                 };
             }
-            Found::Truncated => {
-                return MandatoryRead {
-                    answer: Mandated::Truncated(k),
-                    notes,
-                };
-            }
-            Found::Value(_, _, took, fault) => {
-                if refuses(lenient, fault) {
-                    return MandatoryRead {
-                        answer: refused_by(fault, k),
-                        notes,
-                    };
-                }
-                notes = with_fault(notes, k, fault);
-                at += took;
+            Ok(found) => {
+                notes = with_fault(notes, row, found.fault);
+                at += found.took;
             }
         }
-        k += 1;
     }
     MandatoryRead {
-        answer: Mandated::Done(at),
+        answer: Ok(at),
         notes,
     }
-}
-
-// Three numbers of a row from a position on.
-fn set_row(rows: &mut [u32], at: usize, start: u32, len: u32)
-    requires { at + 3 ≤ length rows.old }
-    ensures { rows.new ≡ over_at at (1 ∷ start ∷ len ∷ []) rows.old }
-{
-    rows[at] = 1;
-    rows[at + 1] = start;
-    rows[at + 2] = len;
 }
 
 // Each row's value into the lent rows, up to a row that has none.
@@ -112,48 +100,26 @@ fn fill(part: &[u8], table: &[u32], rows: &mut [u32])
     requires { (3 * length (mandatory_rows_of table.now) ≤ length rows.old) × (length part.now ≤ 65535) }
     ensures { rows.new ≡ over (rows_from 0 (mandatory_rows_of table.now) part.now) rows.old }
 {
-    let n = mandatory_rows(table);
     let mut at = 0;
-    let mut k = 0;
-    while k < n {
-        match decode_mandatory_ie(&part[at..], table, k) {
-            Found::Missing => {
-                return;
-            }
-            Found::Truncated => {
-                return;
-            }
-            Found::Value(h, len, took, _) => {
-                set_row(rows, 3 * k, (at + h) as u32, len as u32);
-                at += took;
-            }
-        }
-        k += 1;
-    }
-}
-
-fn is_done(answer: Mandated) -> bool
-    ensures { result ≡ eqb (number_of answer) 0 }
-{
-    match answer {
-        Mandated::Done(_) => true,
-        Mandated::NoRoom => false,
-        Mandated::TooLong => false,
-        Mandated::BadTable(_) => false,
-        Mandated::NoTable => false,
-        Mandated::Missing(_) => false,
-        Mandated::Truncated(_) => false,
-        Mandated::TooShort(_) => false,
-        Mandated::Syntax(_) => false,
+    for row in 0..mandatory_rows(table) {
+        let Ok(found) = decode_mandatory_ie(&part[at..], table, row) else {
+            return;
+        };
+        put_row(
+            rows,
+            3 * row,
+            [1, (at + found.start) as u32, found.len as u32],
+        );
+        at += found.took;
     }
 }
 
 // A refusal for a reason that no row gives has no notes.
-pub(crate) fn unread(answer: Mandated) -> MandatoryRead
-    ensures { result ≡ record { answer = answer; notes = no_notes } }
+pub(crate) fn unread(error: MandatoryError) -> MandatoryRead
+    ensures { result ≡ record { answer = Err error; notes = no_notes } }
 {
     MandatoryRead {
-        answer,
+        answer: Err(error),
         notes: no_notes(),
     }
 }
@@ -169,16 +135,14 @@ pub(crate) fn decode_checked(
     ensures { Reads (mandatory_reading table.now lenient part.now rows.old) result rows.new }
 {
     if part.len() > MOST_OCTETS {
-        return unread(Mandated::TooLong);
+        return unread(MandatoryError::TooLong);
     }
-    if rows.len() < 3 * mandatory_rows(&*table) {
-        return unread(Mandated::NoRoom);
+    if rows.len() < 3 * mandatory_rows(table) {
+        return unread(MandatoryError::NoRoom);
     }
-    let read = judge(&*part, &*table, lenient);
-    let answer = read.answer;
-    if is_done(answer) {
-        fill(&*part, &*table, rows);
-        return read;
+    let read = judge(part, table, lenient);
+    if read.answer.is_ok() {
+        fill(part, table, rows);
     }
     read
 }
@@ -193,7 +157,7 @@ pub fn decode_mandatory_ies(
     ensures { Reads (mandatory_reading table.now lenient part.now rows.old) result rows.new }
 {
     match check_mandatory_table(table) {
-        Checked::Passes => decode_checked(part, table, lenient, rows),
-        Checked::BadRow(k) => unread(Mandated::BadTable(k)),
+        Ok(()) => decode_checked(part, table, lenient, rows),
+        Err(bad) => unread(MandatoryError::BadTable(bad.0)),
     }
 }

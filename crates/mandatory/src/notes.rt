@@ -5,7 +5,7 @@ ghost use Rattle.mandatory.specs.Notes.{no_notes, with_note, with_fault};
 use mandatory_ie::Fault;
 
 // A row and its fault's number, 8 or 9.
-#[derive(Clone, Copy)]
+#[derive(Clone, Copy, PartialEq, Eq)]
 pub struct Note {
     pub row: u32,
     pub number: u32,
@@ -43,13 +43,13 @@ fn with_note(notes: Notes, row: usize, number: u32) -> Notes
 }
 
 // With the fault of a row noted, if it has one.
-pub(crate) fn with_fault(notes: Notes, row: usize, fault: Fault) -> Notes
+pub(crate) fn with_fault(notes: Notes, row: usize, fault: Option<Fault>) -> Notes
     requires { (notes.count < 32) × (row < 4294967296) }
     ensures { result ≡ with_fault notes row fault }
 {
     match fault {
-        Fault::Nothing => notes,
-        Fault::TooShort => with_note(notes, row, 8),
-        Fault::Syntax => with_note(notes, row, 9),
+        None => notes,
+        Some(Fault::TooShort) => with_note(notes, row, 8),
+        Some(Fault::Syntax) => with_note(notes, row, 9),
     }
 }

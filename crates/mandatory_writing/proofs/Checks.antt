@@ -13,37 +13,38 @@ use Rattle.definitions.specs.Tables.{mandatory_table_of}
 use Rattle.definitions.specs.Values.{Octets, mandatory_width, bad_rows, values_too_long}
 use Rattle.values.specs.Rows.{sources_of}
 use Rattle.mandatory_writing.specs.Writes.{wrote_as, Writes, fits_at, misfit_in, absent_in, wrote_by}
-use Rattle.mandatory_writing.specs.declared.encode.MandatoryWrote.{MandatoryWrote}
+use Rattle.std.specs.Prelude.{Result, Ok, Err}
+use Rattle.mandatory_writing.specs.declared.encode.MandatoryWriteError.{MandatoryWriteError}
 
 -- an answer, and what it leaves
-pub writes : {d : RowsWrote} (r : MandatoryWrote) {output : List ℕ} → d ≡ record { said = wrote_as r; output = output } → Writes d r output
+pub writes : {d : RowsWrote} (r : Result ℕ MandatoryWriteError) {output : List ℕ} → d ≡ record { said = wrote_as r; output = output } → Writes d r output
 writes r e = record { answers = ap (λ (x : RowsWrote). x.said) (sym e); output-is = ap (λ (x : RowsWrote). x.output) (sym e) }
 
 -- ---- the rows, their values, the output
 
 module _ (t : List MandatoryRow) (o : Octets) (rows output : List ℕ) where
-  pub wrote-bad : bad_rows mandatory_width o rows (length t) ≡ true → Writes (wrote_by t o rows output) MandatoryWrote.Malformed output
+  pub wrote-bad : bad_rows mandatory_width o rows (length t) ≡ true → Writes (wrote_by t o rows output) (Err MandatoryWriteError.Malformed) output
   unfolding wrote_by refusal
-  wrote-bad b = writes MandatoryWrote.Malformed (rw b)
+  wrote-bad b = writes (Err MandatoryWriteError.Malformed) (rw b)
 
   module _ (b : bad_rows mandatory_width o rows (length t) ≡ false) where
-    pub wrote-absent : not (is_none (absent_in rows (length t))) ≡ true → Writes (wrote_by t o rows output) MandatoryWrote.Malformed output
+    pub wrote-absent : not (is_none (absent_in rows (length t))) ≡ true → Writes (wrote_by t o rows output) (Err MandatoryWriteError.Malformed) output
     unfolding wrote_by refusal
-    wrote-absent a = writes MandatoryWrote.Malformed (rw (b, a))
+    wrote-absent a = writes (Err MandatoryWriteError.Malformed) (rw (b, a))
 
     module _ (a : not (is_none (absent_in rows (length t))) ≡ false) where
-      pub wrote-unfit : (k : ℕ) → misfit_in t o rows 0 (length t) ≡ some k → Writes (wrote_by t o rows output) (MandatoryWrote.Unfit k) output
+      pub wrote-unfit : (k : ℕ) → misfit_in t o rows 0 (length t) ≡ some k → Writes (wrote_by t o rows output) (Err (MandatoryWriteError.Unfit k)) output
       unfolding wrote_by refusal
-      wrote-unfit k e = writes (MandatoryWrote.Unfit k) (rw (b, a, e))
+      wrote-unfit k e = writes (Err (MandatoryWriteError.Unfit k)) (rw (b, a, e))
 
       module _ (e : misfit_in t o rows 0 (length t) ≡ none) {size : ℕ} (s : length (rows_written o rows 0 0 t) ≡ size) where
-        pub wrote-short : length output < size → Writes (wrote_by t o rows output) (MandatoryWrote.OutputShort size) output
+        pub wrote-short : length output < size → Writes (wrote_by t o rows output) (Err (MandatoryWriteError.OutputShort size)) output
         unfolding wrote_by refusal
-        wrote-short h = writes (MandatoryWrote.OutputShort size) (rw (b, a, e, s, lt-ltb (length output) size h))
+        wrote-short h = writes (Err (MandatoryWriteError.OutputShort size)) (rw (b, a, e, s, lt-ltb (length output) size h))
 
-        pub wrote-done : {output' : List ℕ} → size ≤ length output → output' ≡ over (rows_written o rows 0 0 t) output → Writes (wrote_by t o rows output) (MandatoryWrote.Done size) output'
+        pub wrote-done : {output' : List ℕ} → size ≤ length output → output' ≡ over (rows_written o rows 0 0 t) output → Writes (wrote_by t o rows output) (Ok size) output'
         unfolding wrote_by refusal
-        wrote-done h w = writes (MandatoryWrote.Done size) (rw (b, a, e, s, le-ltb (length output) size h, w))
+        wrote-done h w = writes (Ok size) (rw (b, a, e, s, le-ltb (length output) size h, w))
 
 -- ---- the checks before them
 
@@ -51,19 +52,19 @@ module _ (table rows received : List ℕ) (set : Used) (output : List ℕ) where
   abbrev t : List MandatoryRow
   t = mandatory_rows_of table
 
-  pub writing-table : (k : ℕ) → first_bad_mandatory t ≡ some k → Writes (mandatory_writing table rows received set output) (MandatoryWrote.BadTable k) output
+  pub writing-table : (k : ℕ) → first_bad_mandatory t ≡ some k → Writes (mandatory_writing table rows received set output) (Err (MandatoryWriteError.BadTable k)) output
   unfolding mandatory_writing refusal
-  writing-table k e = writes (MandatoryWrote.BadTable k) (rw e)
+  writing-table k e = writes (Err (MandatoryWriteError.BadTable k)) (rw e)
 
   module _ (p : first_bad_mandatory t ≡ none) where
-    pub writing-long : values_too_long received set ≡ true → Writes (mandatory_writing table rows received set output) MandatoryWrote.TooLong output
+    pub writing-long : values_too_long received set ≡ true → Writes (mandatory_writing table rows received set output) (Err MandatoryWriteError.TooLong) output
     unfolding mandatory_writing refusal
-    writing-long e = writes MandatoryWrote.TooLong (rw (p, e))
+    writing-long e = writes (Err MandatoryWriteError.TooLong) (rw (p, e))
 
     module _ (e : values_too_long received set ≡ false) where
-      pub writing-room : length rows < 3 * length t → Writes (mandatory_writing table rows received set output) MandatoryWrote.NoRoom output
+      pub writing-room : length rows < 3 * length t → Writes (mandatory_writing table rows received set output) (Err MandatoryWriteError.NoRoom) output
       unfolding mandatory_writing refusal
-      writing-room h = writes MandatoryWrote.NoRoom (rw (p, e, lt-ltb (length rows) (3 * length t) h))
+      writing-room h = writes (Err MandatoryWriteError.NoRoom) (rw (p, e, lt-ltb (length rows) (3 * length t) h))
 
       pub writing-rest : 3 * length t ≤ length rows → mandatory_writing table rows received set output ≡ wrote_by t (sources_of received (content set)) rows output
       unfolding mandatory_writing refusal wrote_by fits_at
@@ -72,12 +73,12 @@ module _ (table rows received : List ℕ) (set : Used) (output : List ℕ) where
 -- ---- by table number
 
 module _ (n : ℕ) (rows received : List ℕ) (set : Used) (output : List ℕ) where
-  pub by_number : {table : List ℕ} {r : MandatoryWrote} {output' : List ℕ} → mandatory_table_of n ≡ some table → Writes (mandatory_writing table rows received set output) r output' → Writes (mandatory_writing_by n rows received set output) r output'
+  pub by_number : {table : List ℕ} {r : Result ℕ MandatoryWriteError} {output' : List ℕ} → mandatory_table_of n ≡ some table → Writes (mandatory_writing table rows received set output) r output' → Writes (mandatory_writing_by n rows received set output) r output'
   unfolding mandatory_writing_by
   by_number {table} e h =
       let q : mandatory_writing_by n rows received set output ≡ mandatory_writing table rows received set output = rw (e, mandatory_writing_by) in
       rw q h
 
-  pub by-none : mandatory_table_of n ≡ none → Writes (mandatory_writing_by n rows received set output) MandatoryWrote.NoTable output
+  pub by-none : mandatory_table_of n ≡ none → Writes (mandatory_writing_by n rows received set output) (Err MandatoryWriteError.NoTable) output
   unfolding mandatory_writing_by
-  by-none e = writes MandatoryWrote.NoTable (rw (e, mandatory_writing_by))
+  by-none e = writes (Err MandatoryWriteError.NoTable) (rw (e, mandatory_writing_by))

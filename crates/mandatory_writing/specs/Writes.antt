@@ -1,34 +1,33 @@
 -- Writing's answer, and what it leaves in the output, by the definition of writing; sizes, and rows from a state on.
-use Rattle.std.specs.Prelude.{ℕ, suc, ◌+◌, ◌≤◌, ◌≡◌, List, [], ◌∷◌, Bool, ◌||◌, not, length, ltb}
+use Rattle.std.specs.Prelude.{ℕ, suc, ◌+◌, ◌≤◌, ◌≡◌, List, [], ◌∷◌, Bool, ◌||◌, not, length, ltb, Option as Answered, Some, None, Result, Ok, Err}
 use Rattle.std.proofs.Math.Option.{Option, none, some}
 use Rattle.definitions.specs.Basic.{is_none, Answer, answer, refuse, refuse_at, refusal, unless, over}
 use Rattle.definitions.specs.Mandatory.{MandatoryForm, low_half, high_half, fixed_v, lv, lv-e, MandatoryRow, mandatory_form, mandatory_row_at, fits_mandatory, rows_written, RowsWrote}
 use Rattle.definitions.specs.Values.{Octets, mandatory_width, value_in, octets_at, present, first_from, bad_rows}
 use Rattle.values.specs.Rows.{sources_of}
-use Rattle.mandatory_writing.specs.declared.encode.Misfit.{Misfit}
-use Rattle.mandatory_writing.specs.declared.encode.MandatoryWrote.{MandatoryWrote}
+use Rattle.mandatory_writing.specs.declared.encode.MandatoryWriteError.{MandatoryWriteError}
 
 -- ---- the answer
 
-abbrev pub wrote_as : MandatoryWrote → Answer
-wrote_as (MandatoryWrote.Done n) = answer 0 (n ∷ [])
-wrote_as MandatoryWrote.NoRoom = answer 2 (1 ∷ [])
-wrote_as MandatoryWrote.TooLong = answer 3 []
-wrote_as (MandatoryWrote.BadTable k) = answer 4 (k ∷ [])
-wrote_as MandatoryWrote.NoTable = answer 5 []
-wrote_as (MandatoryWrote.Unfit k) = answer 10 (k ∷ [])
-wrote_as MandatoryWrote.Malformed = answer 11 (3 ∷ [])
-wrote_as (MandatoryWrote.OutputShort n) = answer 12 (n ∷ [])
+abbrev pub wrote_as : Result ℕ MandatoryWriteError → Answer
+wrote_as (Ok n) = answer 0 (n ∷ [])
+wrote_as (Err MandatoryWriteError.NoRoom) = answer 2 (1 ∷ [])
+wrote_as (Err MandatoryWriteError.TooLong) = answer 3 []
+wrote_as (Err (MandatoryWriteError.BadTable k)) = answer 4 (k ∷ [])
+wrote_as (Err MandatoryWriteError.NoTable) = answer 5 []
+wrote_as (Err (MandatoryWriteError.Unfit k)) = answer 10 (k ∷ [])
+wrote_as (Err MandatoryWriteError.Malformed) = answer 11 (3 ∷ [])
+wrote_as (Err (MandatoryWriteError.OutputShort n)) = answer 12 (n ∷ [])
 
-pub record Writes (d : RowsWrote) (r : MandatoryWrote) (output : List ℕ) : Type 0 where
+pub record Writes (d : RowsWrote) (r : Result ℕ MandatoryWriteError) (output : List ℕ) : Type 0 where
   pub answers : wrote_as r ≡ d.said
   pub output-is : output ≡ d.output
 
 -- ---- what fits
 
-abbrev pub misfit_as : Misfit → Option ℕ
-misfit_as Misfit.Nowhere = none
-misfit_as (Misfit.At k) = some k
+abbrev pub misfit_as : Answered ℕ → Option ℕ
+misfit_as None = none
+misfit_as (Some k) = some k
 
 -- whether the value of row k fits
 unfoldable pub fits_at : List MandatoryRow → Octets → List ℕ → ℕ → Bool

@@ -9,16 +9,15 @@ ghost use Rattle.values.specs.Rows.{sources_of};
 ghost use Rattle.mandatory_writing.specs.Writes.{fits_at, size_at, size_from, misfit_as, misfit_in, Short, Ready, wrote_by, Writes};
 
 use crate::row::{encoded_size, fits_mandatory, low_bits, put_row};
-use checks::{Checked, check_mandatory_table};
+use checks::{BadRow, check_mandatory_table};
 use octets::part;
 use rows::columns::{mandatory_form_at, mandatory_rows};
 use values::check::too_long;
 use values::row::{any_bad, mandatory_row_at, value_octets};
 
-// What writing answers: the octets written, or a refusal; the row that does not fit counts from 0.
-#[derive(Clone, Copy)]
-pub enum MandatoryWrote {
-    Done(usize),
+// Why mandatory rows are not written; the row that does not fit counts from 0, and an output that is too short needs so many octets.
+#[derive(Clone, Copy, PartialEq, Eq)]
+pub enum MandatoryWriteError {
     NoRoom,
     TooLong,
     BadTable(usize),
@@ -28,24 +27,25 @@ pub enum MandatoryWrote {
     OutputShort(usize),
 }
 
-// The lowest row whose value does not fit, if there is one.
-#[derive(Clone, Copy)]
-pub enum Misfit {
-    Nowhere,
-    At(usize),
+impl From<BadRow> for MandatoryWriteError {
+    ghost use Rattle.mandatory_writing.specs.declared.encode.MandatoryWriteError.{MandatoryWriteError};
+
+    ghost from_gives = { λ bad e. e ≡ MandatoryWriteError.BadTable bad.0 };
+
+    fn from(bad: BadRow) -> MandatoryWriteError {
+        MandatoryWriteError::BadTable(bad.0)
+    }
 }
 
 // Whether a row of the first n is absent.
 fn any_absent(rows: &[u32], n: usize) -> bool
     ensures { result ≡ not (is_none (first_from (λ k. not (present (value_in mandatory_width rows.now k))) 0 n)) }
 {
-    let mut k = 0;
-    while k < n {
+    for k in 0..n {
         let row = mandatory_row_at(rows, k);
         if row.source == 0 {
             return true;
         }
-        k += 1;
     }
     false
 }
@@ -62,23 +62,22 @@ fn row_fits<'a>(table: &[u32], rows: &[u32], received: &'a [u8], set: &'a [u8], 
     )
 }
 
+// The lowest row whose value does not fit, if there is one.
 fn first_misfit<'a>(
     table: &[u32],
     rows: &[u32],
     received: &'a [u8],
     set: &'a [u8],
     n: usize,
-) -> Misfit
+) -> Option<usize>
     ensures { misfit_as result ≡ misfit_in (mandatory_rows_of table.now) (sources_of received.now set.now) rows.now 0 n }
 {
-    let mut k = 0;
-    while k < n {
+    for k in 0..n {
         if !row_fits(table, rows, received, set, k) {
-            return Misfit::At(k);
+            return Some(k);
         }
-        k += 1;
     }
-    Misfit::Nowhere
+    None
 }
 
 // How many octets a row is written as.
@@ -96,12 +95,9 @@ fn octets_needed<'a>(table: &[u32], rows: &[u32], received: &'a [u8], set: &'a [
     requires { Short received.now set.now × (length (mandatory_rows_of table.now) ≤ 32) }
     ensures { result ≡ size_from (sources_of received.now set.now) rows.now 0 (mandatory_rows_of table.now) }
 {
-    let n = mandatory_rows(table);
     let mut size = 0;
-    let mut k = 0;
-    while k < n {
+    for k in 0..mandatory_rows(table) {
         size += row_size(table, rows, received, set, k);
-        k += 1;
     }
     size
 }
@@ -111,18 +107,15 @@ fn write_rows<'a>(table: &[u32], rows: &[u32], received: &'a [u8], set: &'a [u8]
     requires { Ready (mandatory_rows_of table.now) received.now set.now rows.now output.old }
     ensures { output.new ≡ over (rows_written (sources_of received.now set.now) rows.now 0 0 (mandatory_rows_of table.now)) output.old }
 {
-    let n = mandatory_rows(table);
     let mut at = 0;
     let mut low = 0u8;
-    let mut k = 0;
-    while k < n {
+    for k in 0..mandatory_rows(table) {
         let row = mandatory_row_at(rows, k);
         let value = value_octets(received, set, row);
         let form = mandatory_form_at(table, k);
         put_row(&mut output[at..], form, low, row.source, value);
         at += encoded_size(form, value.len());
         low = low_bits(value);
-        k += 1;
     }
 }
 
@@ -133,28 +126,26 @@ fn encode_octets<'a>(
     received: &'a [u8],
     set: &'a [u8],
     output: &mut [u8],
-) -> MandatoryWrote
+) -> Result<usize, MandatoryWriteError>
     requires { Short received.now set.now × (length (mandatory_rows_of table.now) ≤ 32) }
     ensures { Writes (wrote_by (mandatory_rows_of table.now) (sources_of received.now set.now) rows.now output.old) result output.new }
 {
     let n = mandatory_rows(table);
     if any_bad(rows, false, n, received, set) {
-        return MandatoryWrote::Malformed;
+        return Err(MandatoryWriteError::Malformed);
     }
     if any_absent(rows, n) {
-        return MandatoryWrote::Malformed;
+        return Err(MandatoryWriteError::Malformed);
     }
-    match first_misfit(table, rows, received, set, n) {
-        Misfit::At(k) => MandatoryWrote::Unfit(k),
-        Misfit::Nowhere => {
-            let size = octets_needed(table, rows, received, set);
-            if output.len() < size {
-                return MandatoryWrote::OutputShort(size);
-            }
-            write_rows(table, rows, received, set, output);
-            MandatoryWrote::Done(size)
-        }
+    if let Some(k) = first_misfit(table, rows, received, set, n) {
+        return Err(MandatoryWriteError::Unfit(k));
     }
+    let size = octets_needed(table, rows, received, set);
+    if output.len() < size {
+        return Err(MandatoryWriteError::OutputShort(size));
+    }
+    write_rows(table, rows, received, set, output);
+    Ok(size)
 }
 
 // By a table that passes its check.
@@ -165,23 +156,17 @@ pub(crate) fn encode_checked<'a>(
     set: &'a [u8],
     set_used: usize,
     output: &mut [u8],
-) -> MandatoryWrote
+) -> Result<usize, MandatoryWriteError>
     requires { first_bad_mandatory (mandatory_rows_of table.now) ≡ none }
     ensures { Writes (mandatory_writing table.now rows.now received.now (used_of set.now set_used) output.old) result output.new }
 {
-    if too_long(&*received, &*set, set_used, 0) {
-        return MandatoryWrote::TooLong;
+    if too_long(received, set, set_used, 0) {
+        return Err(MandatoryWriteError::TooLong);
     }
-    if rows.len() < 3 * mandatory_rows(&*table) {
-        return MandatoryWrote::NoRoom;
+    if rows.len() < 3 * mandatory_rows(table) {
+        return Err(MandatoryWriteError::NoRoom);
     }
-    encode_octets(
-        &*table,
-        &*rows,
-        &*received,
-        part(&*set, 0, set_used),
-        output,
-    )
+    encode_octets(table, rows, received, part(set, 0, set_used), output)
 }
 
 // By a lent table: the lent rows, the received octets, and the set octets that are used.
@@ -192,11 +177,9 @@ pub fn encode_mandatory_ies<'a>(
     set: &'a [u8],
     set_used: usize,
     output: &mut [u8],
-) -> MandatoryWrote
+) -> Result<usize, MandatoryWriteError>
     ensures { Writes (mandatory_writing table.now rows.now received.now (used_of set.now set_used) output.old) result output.new }
 {
-    match check_mandatory_table(table) {
-        Checked::Passes => encode_checked(table, rows, received, set, set_used, output),
-        Checked::BadRow(k) => MandatoryWrote::BadTable(k),
-    }
+    check_mandatory_table(table)?;
+    encode_checked(table, rows, received, set, set_used, output)
 }

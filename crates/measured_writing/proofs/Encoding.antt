@@ -10,6 +10,7 @@ use borrow.Author.Tests.{le-ltb, ltb-false}
 use lib.ListN.{length, take, length-take}
 use lib.Seq.{take_all}
 use lib.Dec.{ltb}
+use Rattle.std.specs.Prelude.{Ok, Err}
 use Rattle.definitions.specs.Basic.{among, bit, concat, Answer, answer, over, content, too_long, most_octets, most_log}
 use Rattle.definitions.specs.Rows.{Row, rows_of, first_iei, first_bad, index}
 use Rattle.definitions.specs.Logs.{Placed, kept_list, order_list}
@@ -23,10 +24,11 @@ use Rattle.values.specs.Checks.{long_with}
 use Rattle.agreement.specs.Agreed.{apart_by, Agreeing}
 use Rattle.agreement.proofs.Agreeing.{found-apart, all_apart}
 use Rattle.measured_writing.specs.Added.{filled_of, added_in, added_octets}
-use Rattle.measured_writing.specs.Sizes.{Tells, AddedAre, wrong_at, wrong}
-use Rattle.measured_writing.specs.Encodes.{encoded_as, Encodes, used_up, Limited}
+use Rattle.measured_writing.specs.Sizes.{Tells, AddedAre, SurveyedBy, wrong_at, wrong}
+use Rattle.measured_writing.specs.Encodes.{Encoded, encoded_as, survey_error, Encodes, used_up, Limited}
 use Rattle.measured_writing.specs.declared.encode.Which.{Which}
-use Rattle.measured_writing.specs.declared.encode.Encoded.{Encoded}
+use Rattle.measured_writing.specs.declared.encode.EncodeError.{EncodeError}
+use Rattle.measured_writing.specs.declared.sizes.SurveyError.{SurveyError}
 use Rattle.measured_writing.proofs.Cursor.{left_of, written-left}
 use Rattle.measured_writing.proofs.Walked.{Writable}
 
@@ -107,28 +109,28 @@ module _ (table entries rows received set kept order output : List ℕ) (l : Lim
   short =
       rw (le-ltb most_octets (length received) l.sized.received-short, up-short most_octets set l.sized.set-short, up-short most_log order l.order-short, up-short most_log kept l.kept-short)
 
-  pub no-order : order_list order ≡ none → Encodes w (Encoded.Malformed Which.Order) output
+  pub no-order : order_list order ≡ none → Encodes w (Err (EncodeError.Malformed Which.Order)) output
   no-order e = refused (write-order table rows received (used_up set) (used_up order) (used_up kept) output passes short l.rows-there (rw (up order) e)) refl
 
   module _ (ps : List Placed) (p : order_list order ≡ some ps) where
     p' : order_list (content (used_up order)) ≡ some ps
     p' = rw (up order) p
 
-    pub no-kept : kept_list kept ≡ none → Encodes w (Encoded.Malformed Which.Kept) output
+    pub no-kept : kept_list kept ≡ none → Encodes w (Err (EncodeError.Malformed Which.Kept)) output
     no-kept e = refused (write_kept table rows received (used_up set) (used_up order) (used_up kept) output passes short l.rows-there ps p' (rw (up kept) e)) refl
 
     module _ (ks : List (List ℕ)) (q : kept_list kept ≡ some ks) where
       q' : kept_list (content (used_up kept)) ≡ some ks
       q' = rw (up kept) q
 
-      pub bad-rows : (bad_rows place_width (sources_of received set) rows (length t) || apart t ps rows) ≡ true → Encodes w (Encoded.Malformed Which.Rows) output
+      pub bad-rows : (bad_rows place_width (sources_of received set) rows (length t) || apart t ps rows) ≡ true → Encodes w (Err (EncodeError.Malformed Which.Rows)) output
       bad-rows e = refused (write-values table rows received (used_up set) (used_up order) (used_up kept) output passes short l.rows-there ps p' ks q' (rw (up set) e)) refl
 
       module _ (good : (bad_rows place_width (sources_of received set) rows (length t) || apart t ps rows) ≡ false) where
         good' : (bad_rows place_width (sources_of received (content (used_up set))) rows (length t) || apart t ps rows) ≡ false
         good' = rw (up set) good
 
-        pub no-fit : {k : ℕ} → unfit t (sources_of received set) rows ≡ some k → Encodes w (Encoded.Unfit k) output
+        pub no-fit : {k : ℕ} → unfit t (sources_of received set) rows ≡ some k → Encodes w (Err (EncodeError.Unfit k)) output
         no-fit e = refused (write-unfit table rows received (used_up set) (used_up order) (used_up kept) output passes short l.rows-there ps p' ks q' good' (rw (up set) e)) refl
 
         module _ (fit : unfit t (sources_of received set) rows ≡ none) (need : ℕ) (n : need ≡ length (written m ps ks)) where
@@ -141,18 +143,23 @@ module _ (table entries rows received set kept order output : List ℕ) (l : Lim
           n' : need ≡ length (written (filled_of table rows received (content (used_up set))) ps ks)
           n' = n ∙ ap length (sym all)
 
-          pub no_output : length output < need → Encodes w (Encoded.NoOutput need) output
+          pub no_output : length output < need → Encodes w (Err (EncodeError.NoOutput need)) output
           no_output h =
               refused (write-short table rows received (used_up set) (used_up order) (used_up kept) output passes short l.rows-there ps p' ks q' good' fit' (omega (arith, n')))
               (ap (λ (k : ℕ). answer 12 (k ∷ [])) n')
 
-          pub done : {after : List ℕ} → need ≤ length output → after ≡ over (written m ps ks) output → Encodes w (Encoded.Done need) after
+          pub done : {after : List ℕ} → need ≤ length output → after ≡ over (written m ps ks) output → Encodes w (Ok need) after
           done h a =
               let e = write_done table rows received (used_up set) (used_up order) (used_up kept) output passes short l.rows-there ps p' ks q' good' fit' (omega (arith, n')) in
               record {
                 answers = ap (λ (k : ℕ). answer 0 (k ∷ [])) n' ∙ ap (λ (x : Wrote). x.said) (sym e);
                 output-is = a ∙ ap (λ (s : List ℕ). over s output) (sym all) ∙ ap (λ (x : Wrote). x.output) (sym e);
               }
+
+      -- what a look at all places refuses, by the set of the logged ones
+      pub no-survey : (logged : ℕ) → Agreeing t rows ps [] logged false → (e : SurveyError) → SurveyedBy m logged (Err e) → Encodes w (Err (survey_error e)) output
+      no-survey logged a SurveyError.Malformed h = bad-rows (sym (wrong-rows m logged ps a) ∙ h)
+      no-survey logged a (SurveyError.Unfit k) h = no-fit (sym (wrong-rows m logged ps a) ∙ h.0) h.1
 
 -- ---- of octets with their used counts
 
@@ -190,10 +197,10 @@ module _ (table entries rows received set : List ℕ) (set-used : ℕ) (kept : L
   abbrev v : Wrote
   v = writing table rows received (used_of set set-used) (used_of order order-used) (used_of kept kept-used) output
 
-  pub long-values : values_too_long received (used_of set set-used) ≡ true → Encodes v Encoded.TooLong output
+  pub long-values : values_too_long received (used_of set set-used) ≡ true → Encodes v (Err EncodeError.TooLong) output
   long-values e = refused (write-long table rows received (used_of set set-used) (used_of order order-used) (used_of kept kept-used) output passes (rw e)) refl
 
-  pub long-logs : values_too_long received (used_of set set-used) ≡ false → (too_long most_log (used_of order order-used) || too_long most_log (used_of kept kept-used)) ≡ true → Encodes v Encoded.TooLong output
+  pub long-logs : values_too_long received (used_of set set-used) ≡ false → (too_long most_log (used_of order order-used) || too_long most_log (used_of kept kept-used)) ≡ true → Encodes v (Err EncodeError.TooLong) output
   long-logs e f = refused (write-long table rows received (used_of set set-used) (used_of order order-used) (used_of kept kept-used) output passes (rw (e, f))) refl
 
   module _ (a : length received ≤ most_octets) where
@@ -204,7 +211,7 @@ module _ (table entries rows received set : List ℕ) (set-used : ℕ) (kept : L
           unfolding values_too_long
           all_short = rw (le-ltb most_octets (length received) a, b, c, d)
 
-          pub no_rows : length rows < 4 * length (rows_of table) → Encodes v Encoded.NoRows output
+          pub no_rows : length rows < 4 * length (rows_of table) → Encodes v (Err EncodeError.NoRows) output
           no_rows h = refused (write-rows table rows received (used_of set set-used) (used_of order order-used) (used_of kept kept-used) output passes all_short h) refl
 
           -- each count is within its buffer

@@ -1,13 +1,15 @@
 -- The places looked at one by one: those before are well formed and fit, and their added elements with those left take what all take;
 -- or one before is the first that does not fit. Each step moves a place from what is left; a malformed one decides at once.
-use Prim.Native.Nat.{ℕ, ◌+◌, ◌-◌, ◌*◌, ◌≤◌, ◌<◌, min}
+use Prim.Native.Nat.{ℕ, ◌+◌, ◌-◌, ◌*◌, ◌≤◌, ◌<◌}
 use native.Mathlib.Omega.{arith}
 use mathlib.Core.Path.{◌≡◌, refl, ap, sym, ◌∙◌}
 use mathlib.Core.Bool.{Bool, true, false, ◌&&◌, ◌||◌, not}
-use borrow.Author.Tests.{eq-eqb, ne_eqb, eqb-true, eqb-false, lt-ltb, le-ltb, ltb-false}
+use borrow.Author.Tests.{eq-eqb, ne_eqb, eqb-true, eqb-false}
 use mathlib.Core.Option.{none, some}
 use lib.ListN.{length, length-append}
-use lib.Dec.{eqb, ltb}
+use lib.Dec.{eqb}
+use Rattle.std.specs.Prelude.{Option as Answered, Some, None, Ok, Err}
+use Rattle.std.specs.Option.{option_or}
 use Rattle.definitions.specs.Basic.{pick, bit, is_none}
 use Rattle.definitions.specs.Rows.{first_iei}
 use Rattle.definitions.specs.Values.{value_at, present, first_from, unfit_at}
@@ -17,8 +19,8 @@ use Rattle.values.proofs.Showing.{first-here, first-further, first-over}
 use Rattle.agreement.proofs.Agreeing.{no-bit}
 use Rattle.measured_writing.specs.Added.{added_in, added_octets}
 use Rattle.measured_writing.specs.Sizes.{most_ie, added_to, wrong_at, LookedAt, SurveyedBy}
-use Rattle.measured_writing.specs.declared.sizes.Looked.{Looked}
-use Rattle.measured_writing.specs.declared.sizes.Surveyed.{Surveyed}
+use Rattle.measured_writing.specs.declared.sizes.RowFault.{RowFault}
+use Rattle.measured_writing.specs.declared.sizes.SurveyError.{SurveyError}
 use Rattle.measured_writing.specs.declared.sizes.Tally.{Tally}
 use Rattle.measured_writing.proofs.Tallying.{any-iei, bits-with}
 use Rattle.measured_writing.proofs.Cursor.{added_piece, added_more, same-octets, piece_added, piece-not}
@@ -45,7 +47,7 @@ module _ (m : Filled) (set : ℕ) where
     pub no_bits : (j : ℕ) → k ≤ j → bit j (set_of t.seen) ≡ false
     pub sum : t.octets ≡ length (added_octets m (set_of t.seen) 0 k)
 
-  surveying-begun : Surveying 0 (record { octets = 0; seen = record { low = 0; high = 0 } })
+  surveying-begun : Surveying 0 (record { octets = 0; seen = seen_of 0 })
   unfolding added_octets added_in firsts
   surveying-begun =
       let z : n - 0 ≡ n = omega arith in
@@ -60,7 +62,7 @@ module _ (m : Filled) (set : ℕ) where
       }
 
   module _ (k : ℕ) (t : Tally) (s : Surveying k t) where
-    surveying-ended : n ≤ k → n ≤ 128 → SurveyedBy m set (Surveyed.Added t)
+    surveying-ended : n ≤ k → n ≤ 128 → SurveyedBy m set (Ok t)
     unfolding unfit is_none
     surveying-ended h q =
         let e : k ≡ n = omega (arith, s.inside) in
@@ -99,11 +101,11 @@ module _ (m : Filled) (set : ℕ) where
           let l : t.octets ≡ t.octets + length (added_piece m (set_of t.seen) k) = rw (piece-not m (set_of t.seen) k z) (omega arith) in
           stepped g f t (λ j i. refl) (z ∙ sym e) l (omega arith)
 
-      surveying-absent : LookedAt m set k Looked.Absent → Surveying (k + 1) t
+      surveying-absent : LookedAt m set k (Ok None) → Surveying (k + 1) t
       unfolding unfit_at
       surveying-absent a = passed a.0 (rw a.1) (rw a.1)
 
-      surveying-step : k < 128 → {l : ℕ} {u : Tally} → LookedAt m set k (Looked.Takes l) → u ≡ added_to set k l t → Surveying (k + 1) u
+      surveying-step : k < 128 → {l : ℕ} {u : Tally} → LookedAt m set k (Ok (Some l)) → u ≡ added_to set k l t → Surveying (k + 1) u
       surveying-step low {l = l} a q = rw q (by (bit k set) refl)
         where
           with_it : Tally
@@ -117,99 +119,67 @@ module _ (m : Filled) (set : ℕ) where
               let p : l ≡ length (added_piece m (set_of with_it.seen) k) = a.3 ∙ sym (ap length (piece_added m (set_of with_it.seen) k y) ∙ any-iei m k (first_iei m.table k)) in
               stepped a.0 a.1 with_it (λ j i. b j ∙ rw (ne_eqb j k i)) (y ∙ sym (rw (a.2, e))) (ap (λ (j : ℕ). t.octets + j) p) (omega (arith, a.4))
 
-  -- ---- with the first that does not fit, n where there is none
+  -- ---- with the first that does not fit, if there is one
 
   pub record Unfitting (k u : ℕ) (t : Tally) : Type 0 where
     pub inside : k ≤ n
     pub few : t.octets ≤ most_ie * k
     pub good-before : first_from bad k (n - k) ≡ first_from bad 0 n
-    pub before : u < k
     pub is-first : first_from not-fit 0 n ≡ some u
 
-  abbrev pub ByFirst : Bool → ℕ → ℕ → Tally → Type 0
-  ByFirst false k u t = Surveying k t
-  ByFirst true k u t = Unfitting k u t
+  abbrev pub Looking : ℕ → Answered ℕ → Tally → Type 0
+  Looking k None t = Surveying k t
+  Looking k (Some u) t = Unfitting k u t
 
-  pub record Looking (k u : ℕ) (t : Tally) : Type 0 where
-    pub by_first : ByFirst (ltb u n) k u t
+  pub looking-begun : Looking 0 None (record { octets = 0; seen = seen_of 0 })
+  looking-begun = surveying-begun
 
-  by-test : (b : Bool) (k u : ℕ) (t : Tally) → ltb u n ≡ b → ByFirst b k u t → Looking k u t
-  by-test b k u t e s = record { by_first = rw e s }
+  module _ (k : ℕ) where
+    good-up-to : (u : Answered ℕ) (t : Tally) → Looking k u t → first_from bad k (n - k) ≡ first_from bad 0 n
+    good-up-to None t l = l.good-before
+    good-up-to (Some u) t l = l.good-before
 
-  pub looking-begun : Looking 0 n (record { octets = 0; seen = record { low = 0; high = 0 } })
-  looking-begun = by-test false 0 n _ (le-ltb n n (omega arith)) surveying-begun
+    pub looking-few : (u : Answered ℕ) (t : Tally) → Looking k u t → (k ≤ n) × (t.octets ≤ most_ie * k)
+    looking-few None t l = (l.inside, l.few)
+    looking-few (Some u) t l = (l.inside, l.few)
 
-  module _ (k u : ℕ) (t : Tally) (s : Looking k u t) where
-    good-up-to : (b : Bool) → ByFirst b k u t → first_from bad k (n - k) ≡ first_from bad 0 n
-    good-up-to false l = l.good-before
-    good-up-to true l = l.good-before
+    pub looking-ended : (t : Tally) → Looking k None t → n ≤ k → n ≤ 128 → SurveyedBy m set (Ok t)
+    looking-ended t l h q = surveying-ended k t l h q
 
-    pub looking-few : (k ≤ n) × (t.octets ≤ most_ie * k)
-    looking-few = by (ltb u n) s.by_first
-      where
-        by : (b : Bool) → ByFirst b k u t → (k ≤ n) × (t.octets ≤ most_ie * k)
-        by false l = (l.inside, l.few)
-        by true l = (l.inside, l.few)
-
-    pub looking-ended : n ≤ k → n ≤ 128 → n ≤ u → SurveyedBy m set (Surveyed.Added t)
-    looking-ended h q o = surveying-ended k t (rw (le-ltb u n o) at s.by_first) h q
-
-    pub looking-unfit : n ≤ k → u < n → SurveyedBy m set (Surveyed.Unfit u)
+    pub looking-unfit : (u : ℕ) (t : Tally) → Looking k (Some u) t → n ≤ k → SurveyedBy m set (Err (SurveyError.Unfit u))
     unfolding unfit is_none
-    looking-unfit h o =
-        let l : Unfitting k u t = rw (lt-ltb u n o) at s.by_first in
+    looking-unfit u t l h =
         let g : first_from bad 0 n ≡ none = sym l.good-before ∙ first-over bad n k h in
         (rw g, l.is-first)
 
     module _ (h : k < n) where
-      pub looking-bad : LookedAt m set k Looked.Bad → SurveyedBy m set Surveyed.Malformed
+      pub looking-bad : (u : Answered ℕ) (t : Tally) → Looking k u t → LookedAt m set k (Err RowFault.Bad) → SurveyedBy m set (Err SurveyError.Malformed)
       unfolding is_none
-      looking-bad e = let g : first_from bad 0 n ≡ some k = sym (good-up-to (ltb u n) s.by_first) ∙ first-here bad n k h e in rw g
+      looking-bad u t s e = let g : first_from bad 0 n ≡ some k = sym (good-up-to u t s) ∙ first-here bad n k h e in rw g
 
       -- behind the first that does not fit only the rows matter
-      passed_over : (l : Unfitting k u t) (v : Tally) → bad k ≡ false → v.octets ≤ t.octets + most_ie → Unfitting (k + 1) u v
-      passed_over l v good f =
+      passed_over : (u : ℕ) (t : Tally) (l : Unfitting k u t) (v : Tally) → bad k ≡ false → v.octets ≤ t.octets + most_ie → Unfitting (k + 1) u v
+      passed_over u t l v good f =
+          record { inside = omega arith; few = omega (arith, l.few); good-before = first-further bad n k h good ∙ l.good-before; is-first = l.is-first }
+
+      pub looking-not-fit : (u : Answered ℕ) (t : Tally) → Looking k u t → LookedAt m set k (Err RowFault.Unfit) → Looking (k + 1) (option_or u (Some k)) t
+      looking-not-fit None t l a =
           record {
             inside = omega arith;
             few = omega (arith, l.few);
-            good-before = first-further bad n k h good ∙ l.good-before;
-            before = omega (arith, l.before);
-            is-first = l.is-first;
+            good-before = first-further bad n k h a.0 ∙ l.good-before;
+            is-first = sym l.fit-before ∙ first-here not-fit n k h a.1;
           }
+      looking-not-fit (Some u) t l a = passed_over u t l t a.0 (omega arith)
 
-      pub looking-not-fit : {v : ℕ} → LookedAt m set k Looked.Unfit → v ≡ min u k → Looking (k + 1) v t
-      looking-not-fit {v = v} a e = by (ltb u n) refl s.by_first
-        where
-          by : (b : Bool) → ltb u n ≡ b → ByFirst b k u t → Looking (k + 1) v t
-          by false q l =
-              let z = ltb-false u n q in
-              let y : v ≡ k = omega arith in
-              by-test true (k + 1) v t (lt-ltb v n (omega arith))
-              (record {
-                inside = omega arith;
-                few = omega (arith, l.few);
-                good-before = first-further bad n k h a.0 ∙ l.good-before;
-                before = omega arith;
-                is-first = sym l.fit-before ∙ first-here not-fit n k h a.1 ∙ ap some (sym y);
-              })
-          by true q l =
-              let y : v ≡ u = omega (arith, l.before) in
-              rw y (by-test true (k + 1) u t q (passed_over l t a.0 (omega arith)))
+      pub looking-absent : (u : Answered ℕ) (t : Tally) → Looking k u t → LookedAt m set k (Ok None) → Looking (k + 1) u t
+      looking-absent None t l a = surveying-absent k t l h a
+      looking-absent (Some u) t l a = passed_over u t l t a.0 (omega arith)
 
-      pub looking-absent : LookedAt m set k Looked.Absent → Looking (k + 1) u t
-      looking-absent a = by (ltb u n) refl s.by_first
-        where
-          by : (b : Bool) → ltb u n ≡ b → ByFirst b k u t → Looking (k + 1) u t
-          by false q l = by-test false (k + 1) u t q (surveying-absent k t l h a)
-          by true q l = by-test true (k + 1) u t q (passed_over l t a.0 (omega arith))
-
-      pub looking-step : k < 128 → {l : ℕ} {v : Tally} → LookedAt m set k (Looked.Takes l) → v ≡ added_to set k l t → Looking (k + 1) u v
-      looking-step low {l = n'} {v = v} a e = by (ltb u n) refl s.by_first
+      pub looking-step : (u : Answered ℕ) (t : Tally) → Looking k u t → k < 128 → {l : ℕ} {v : Tally} → LookedAt m set k (Ok (Some l)) → v ≡ added_to set k l t → Looking (k + 1) u v
+      looking-step None t s low a e = surveying-step k t s h low a e
+      looking-step (Some u) t s low {l = l} {v = v} a e = passed_over u t s v a.0 (few-more (bit k set) refl)
         where
           few-more : (b : Bool) → bit k set ≡ b → v.octets ≤ t.octets + most_ie
           few-more true q = rw (e, q) (omega arith)
           few-more false q = rw (e, q) (omega (arith, a.4))
-
-          by : (b : Bool) → ltb u n ≡ b → ByFirst b k u t → Looking (k + 1) u v
-          by false q l = by-test false (k + 1) u v q (surveying-step k t l h low a e)
-          by true q l = by-test true (k + 1) u v q (passed_over l v a.0 (few-more (bit k set) refl))

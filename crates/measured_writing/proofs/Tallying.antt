@@ -121,7 +121,7 @@ pub record Logging (m : Filled) (order : List ℕ) (at : ℕ) (t : Tally) (apart
   pub agrees : Agreeing m.table m.rows tells.ps (order_from order at) (set_of t.seen) apart
 
 module _ (m : Filled) (order : List ℕ) where
-  logging-begun : OrderAt order 0 → Logging m order 0 (record { octets = 0; seen = record { low = 0; high = 0 } }) false
+  logging-begun : OrderAt order 0 → Logging m order 0 (record { octets = 0; seen = seen_of 0 }) false
   logging-begun l =
       record {
         here = l;
@@ -189,11 +189,11 @@ pub record Walking (m : Filled) (order : List ℕ) (at : ℕ) (t : Tally) (apart
   pub by-log : ByLog m order at t apart (order_list order)
 
 module _ (m : Filled) (order : List ℕ) where
-  pub walking-begun : Walking m order 0 (record { octets = 0; seen = record { low = 0; high = 0 } }) false
+  pub walking-begun : Walking m order 0 (record { octets = 0; seen = seen_of 0 }) false
   unfolding order_from or_empty
   walking-begun = record { inside = omega arith; few = omega arith; by-log = by (order_list order) refl }
     where
-      by : (o : Option (List Placed)) → order_list order ≡ o → ByLog m order 0 (record { octets = 0; seen = record { low = 0; high = 0 } }) false o
+      by : (o : Option (List Placed)) → order_list order ≡ o → ByLog m order 0 (record { octets = 0; seen = seen_of 0 }) false o
       by (some ps) e = logging-begun m order (record { inside = omega arith; formed = e ∙ ap (λ (o : Option (List Placed)). some (or_empty o)) (sym e) })
       by none e = e
 

@@ -1,5 +1,5 @@
 -- What writing needs to know before an octet is written, by the definitions.
-use Rattle.std.specs.Prelude.{ℕ, ◌+◌, ◌*◌, ◌≤◌, ◌<◌, ◌≡◌, List, [], Bool, true, false, ◌&&◌, ◌||◌, not, length, get_or}
+use Rattle.std.specs.Prelude.{ℕ, ◌+◌, ◌*◌, ◌≤◌, ◌<◌, ◌≡◌, List, [], Bool, true, false, ◌&&◌, ◌||◌, not, length, get_or, Option as Answered, Some, None, Result, Ok, Err}
 use Rattle.std.proofs.Math.Option.{Option, none, some}
 use Rattle.definitions.specs.Basic.{pick, bit, among}
 use Rattle.definitions.specs.Rows.{Form, half, fixed, tlv, tlv-e, rows_of, first_iei, first_bad, place_of, index}
@@ -12,9 +12,8 @@ use Rattle.measured_writing.specs.Added.{added_octets}
 use Rattle.agreement.specs.Agreed.{apart_by, entry_set, Agreeing}
 use Rattle.measured_writing.specs.declared.sizes.Tally.{Tally}
 use Rattle.measured_writing.specs.declared.sizes.Logged.{Logged}
-use Rattle.measured_writing.specs.declared.sizes.Walked.{Walked}
-use Rattle.measured_writing.specs.declared.sizes.Looked.{Looked}
-use Rattle.measured_writing.specs.declared.sizes.Surveyed.{Surveyed}
+use Rattle.measured_writing.specs.declared.sizes.RowFault.{RowFault}
+use Rattle.measured_writing.specs.declared.sizes.SurveyError.{SurveyError}
 
 -- how many octets an element takes with a value of so many
 abbrev pub takes : Form → ℕ → ℕ
@@ -79,9 +78,9 @@ pub record LoggedBy (m : Filled) (order : List ℕ) (t : Logged) : Type 0 where
   pub tells : Tells m order t.octets (set_of t.seen) []
   pub agrees : Agreeing m.table m.rows tells.ps [] (set_of t.seen) t.apart
 
-abbrev pub WalkedBy : Filled → List ℕ → Walked → Type 0
-WalkedBy m order (Walked.Log t) = LoggedBy m order t
-WalkedBy m order Walked.Malformed = order_list order ≡ none
+abbrev pub WalkedBy : Filled → List ℕ → Answered Logged → Type 0
+WalkedBy m order (Some t) = LoggedBy m order t
+WalkedBy m order None = order_list order ≡ none
 
 -- ---- the places
 
@@ -93,11 +92,11 @@ abbrev pub wrong : Filled → ℕ → Bool
 wrong m set = any_of (wrong_at m set) (length m.table)
 
 -- one place, by the set of the logged ones
-abbrev pub LookedAt : Filled → ℕ → ℕ → Looked → Type 0
-LookedAt m set k Looked.Bad = wrong_at m set k ≡ true
-LookedAt m set k Looked.Unfit = (wrong_at m set k ≡ false) × (unfit_at m.table m.octets m.rows k ≡ true)
-LookedAt m set k Looked.Absent = (wrong_at m set k ≡ false) × (present (value_at m.rows k) ≡ false)
-LookedAt m set k (Looked.Takes n) =
+abbrev pub LookedAt : Filled → ℕ → ℕ → Result (Answered ℕ) RowFault → Type 0
+LookedAt m set k (Err RowFault.Bad) = wrong_at m set k ≡ true
+LookedAt m set k (Err RowFault.Unfit) = (wrong_at m set k ≡ false) × (unfit_at m.table m.octets m.rows k ≡ true)
+LookedAt m set k (Ok None) = (wrong_at m set k ≡ false) × (present (value_at m.rows k) ≡ false)
+LookedAt m set k (Ok (Some n)) =
     (wrong_at m set k ≡ false) × (unfit_at m.table m.octets m.rows k ≡ false)
     × (present (value_at m.rows k) ≡ true) × (n ≡ place_length m k) × (n ≤ most_ie)
 
@@ -110,9 +109,9 @@ abbrev pub AddedAre : Filled → ℕ → ℕ → Type 0
 AddedAre m set added = (k : ℕ) → k < length m.table → bit k added ≡ (present (value_at m.rows k) && not (bit k set))
 
 -- all of them, by the set of the logged ones
-abbrev pub SurveyedBy : Filled → ℕ → Surveyed → Type 0
-SurveyedBy m set Surveyed.Malformed = wrong m set ≡ true
-SurveyedBy m set (Surveyed.Unfit k) = (wrong m set ≡ false) × (unfit m.table m.octets m.rows ≡ some k)
-SurveyedBy m set (Surveyed.Added t) =
+abbrev pub SurveyedBy : Filled → ℕ → Result Tally SurveyError → Type 0
+SurveyedBy m set (Err SurveyError.Malformed) = wrong m set ≡ true
+SurveyedBy m set (Err (SurveyError.Unfit k)) = (wrong m set ≡ false) × (unfit m.table m.octets m.rows ≡ some k)
+SurveyedBy m set (Ok t) =
     (wrong m set ≡ false) × (unfit m.table m.octets m.rows ≡ none)
     × AddedAre m set (set_of t.seen) × (t.octets ≡ length (added_octets m (set_of t.seen) 0 (length m.table))) × (t.octets ≤ most_ie * 128)

@@ -1,6 +1,6 @@
 // What writing needs to know before an octet is written: whether the rows are well formed and the values fit, how many octets there
 // are to write, which places the order log names, and which are added.
-ghost use Rattle.std.specs.Prelude.{◌≡◌, ◌≤◌, ◌<◌, min, length};
+ghost use Rattle.std.specs.Prelude.{◌≡◌, ◌≤◌, ◌<◌, length};
 ghost use Rattle.std.proofs.Math.Option.{none};
 ghost use Rattle.definitions.specs.Rows.{rows_of, first_bad};
 ghost use Rattle.order.specs.Order.{placed_as};
@@ -11,49 +11,39 @@ ghost use Rattle.measured_writing.specs.Added.{filled_of};
 ghost use Rattle.measured_writing.specs.Sizes.{takes, place_length, most_ie, Sized, Tallied, tally_of, WalkedBy, added_to, wrong_at, LookedAt, SurveyedBy, AsidesAre};
 
 use agreement::{apart_with, is_unlike};
-use order::{Front, Placed, entry_len, front_at};
+use order::{Placed, entry_len, front_at};
 use rows::columns::{Form, form_of, numbers_at, places};
-use rows::index::{Place, place_of};
-use seen::{Seen, seen_has, seen_with};
+use rows::index::place_of;
+use seen::Seen;
 use values::row::{does_fit, is_good, row_at, value_octets};
 
 // The octets of the added elements, and their places.
-#[derive(Clone, Copy)]
+#[derive(Clone, Copy, PartialEq, Eq)]
 pub struct Tally {
     pub octets: usize,
     pub seen: Seen,
 }
 
 // The octets of the elements under logged IEIs, their places, and whether a row disagrees with the earliest IEI of its place.
-#[derive(Clone, Copy)]
+#[derive(Clone, Copy, PartialEq, Eq)]
 pub struct Logged {
     pub octets: usize,
     pub seen: Seen,
     pub apart: bool,
 }
 
-// A walk over the order log: what it found, or that the log is malformed.
-#[derive(Clone, Copy)]
-pub enum Walked {
-    Log(Logged),
-    Malformed,
-}
-
-// A place looked at: its row is malformed or disagrees with the order log, its value does not fit, it is absent, or its element takes so many octets.
-#[derive(Clone, Copy)]
-pub enum Looked {
+// What is wrong with the row of a place: it is malformed or disagrees with the order log, or its value does not fit.
+#[derive(Clone, Copy, PartialEq, Eq)]
+pub enum RowFault {
     Bad,
     Unfit,
-    Absent,
-    Takes(usize),
 }
 
-// What all places say: a row is malformed or disagrees, a place is the lowest whose value does not fit, or the added elements are these.
-#[derive(Clone, Copy)]
-pub enum Surveyed {
+// What is wrong with all rows: one is malformed or disagrees; or a place is the lowest whose value does not fit.
+#[derive(Clone, Copy, PartialEq, Eq)]
+pub enum SurveyError {
     Malformed,
     Unfit(usize),
-    Added(Tally),
 }
 
 // How many octets an element takes with a value of so many.
@@ -105,12 +95,12 @@ fn with_entry<'a>(
     let seen = t.seen;
     match entry {
         Placed::Known(iei) => match place_of(index, iei) {
-            Place::At(k) => Logged {
+            Some(k) => Logged {
                 octets: t.octets + place_len(table, rows, received, set, k),
-                seen: seen_with(seen, k),
+                seen: seen.with(k),
                 apart: apart_with(rows, seen, t.apart, k, iei as u32),
             },
-            Place::Nowhere => t,
+            None => t,
         },
         _ => t,
     }
@@ -120,18 +110,10 @@ fn with_entry<'a>(
 fn asides(order: &[u8]) -> usize
     ensures { (result ≤ length order.now) × AsidesAre order.now result }
 {
-    let mut n = 0;
-    while n < order.len() {
-        let x = order[n];
-        if x == 0 {
-            return n;
-        }
-        if x > 4 {
-            return n;
-        }
-        n += 1;
-    }
-    n
+    order
+        .iter()
+        .position(|&x| x == 0 || x > 4)
+        .unwrap_or(order.len())
 }
 
 // The whole order log.
@@ -142,14 +124,14 @@ pub(crate) fn logged_len<'a>(
     received: &'a [u8],
     set: &'a [u8],
     order: &[u8],
-) -> Walked
+) -> Option<Logged>
     requires { Sized table.now index.now received.now set.now × (length order.now ≤ 131070) }
     ensures { WalkedBy (filled_of table.now rows.now received.now set.now) order.now result }
 {
     let mut at = 0;
     let mut t = Logged {
         octets: 0,
-        seen: Seen { low: 0, high: 0 },
+        seen: Seen::new(),
         apart: false,
     };
     while at < order.len() {
@@ -157,18 +139,12 @@ pub(crate) fn logged_len<'a>(
         if n > 0 {
             at += n;
         } else {
-            match front_at(&order[at..]) {
-                Front::Is(entry) => {
-                    t = with_entry(table, index, rows, received, set, t, entry);
-                    at += entry_len(entry);
-                }
-                Front::Not => {
-                    return Walked::Malformed;
-                }
-            }
+            let entry = front_at(&order[at..])?;
+            t = with_entry(table, index, rows, received, set, t, entry);
+            at += entry_len(entry);
         }
     }
-    Walked::Log(t)
+    Some(t)
 }
 
 // Whether a place's row is malformed, or it is present, the order log does not name it, and its IEI is not its first.
@@ -190,14 +166,10 @@ fn is_wrong(
     if row.source == 0 {
         return false;
     }
-    let n = numbers_at(table, place);
-    if !is_unlike(row, n.first) {
-        return false;
-    }
-    !seen_has(seen, place)
+    is_unlike(row, numbers_at(table, place).first) && !seen.has(place)
 }
 
-// One look at a place, by the set of those in the order log.
+// One look at a place, by the set of those in the order log: how many octets its element takes, None of an absent one; or what is wrong.
 fn look<'a>(
     table: &[u32],
     rows: &[u32],
@@ -205,24 +177,24 @@ fn look<'a>(
     set: &'a [u8],
     seen: Seen,
     place: usize,
-) -> Looked
+) -> Result<Option<usize>, RowFault>
     requires { (first_bad (rows_of table.now) ≡ none) × (length received.now ≤ 65535) × (length set.now ≤ 65535) }
     ensures { LookedAt (filled_of table.now rows.now received.now set.now) (set_of seen) place result }
 {
     if is_wrong(table, rows, received, set, seen, place) {
-        return Looked::Bad;
+        return Err(RowFault::Bad);
     }
     let row = row_at(rows, place);
     if row.source == 0 {
-        return Looked::Absent;
+        return Ok(None);
     }
     let n = numbers_at(table, place);
     let form = form_of(n.code, n.size);
     let value = value_octets(received, set, row);
     if !does_fit(form, row.source, value) {
-        return Looked::Unfit;
+        return Err(RowFault::Unfit);
     }
-    Looked::Takes(ie_len(form, value.len()))
+    Ok(Some(ie_len(form, value.len())))
 }
 
 // With a present place, whose element is an added one if the order log does not name it.
@@ -230,23 +202,14 @@ fn with_added(seen: Seen, place: usize, len: usize, t: Tally) -> Tally
     requires { (len ≤ most_ie) × (t.octets < 1099511627776) }
     ensures { result ≡ added_to (set_of seen) place len t }
 {
-    if seen_has(seen, place) {
+    if seen.has(place) {
         return t;
     }
     let added = t.seen;
     Tally {
         octets: t.octets + len,
-        seen: seen_with(added, place),
+        seen: added.with(place),
     }
-}
-
-fn lower(a: usize, b: usize) -> usize
-    ensures { result ≡ min a b }
-{
-    if a < b {
-        return a;
-    }
-    b
 }
 
 // One look at each place, by the set of those in the order log. A value that does not fit waits for the rows behind it: one that is
@@ -257,37 +220,25 @@ pub(crate) fn survey<'a>(
     received: &'a [u8],
     set: &'a [u8],
     seen: Seen,
-) -> Surveyed
+) -> Result<Tally, SurveyError>
     requires { (first_bad (rows_of table.now) ≡ none) × (length received.now ≤ 65535) × (length set.now ≤ 65535) }
     ensures { SurveyedBy (filled_of table.now rows.now received.now set.now) (set_of seen) result }
 {
-    let n = places(table);
     let mut t = Tally {
         octets: 0,
-        seen: Seen { low: 0, high: 0 },
+        seen: Seen::new(),
     };
-    let mut unfit = n;
-    let mut k = 0;
-    while k < n {
+    let mut unfit = None;
+    for k in 0..places(table) {
         match look(table, rows, received, set, seen, k) {
-            Looked::Bad => {
-                return Surveyed::Malformed;
-            }
-            Looked::Unfit => {
-                unfit = lower(unfit, k);
-                k += 1;
-            }
-            Looked::Absent => {
-                k += 1;
-            }
-            Looked::Takes(len) => {
-                t = with_added(seen, k, len, t);
-                k += 1;
-            }
+            Ok(None) => {}
+            Ok(Some(len)) => t = with_added(seen, k, len, t),
+            Err(RowFault::Bad) => return Err(SurveyError::Malformed),
+            Err(RowFault::Unfit) => unfit = unfit.or(Some(k)),
         }
     }
-    if unfit < n {
-        return Surveyed::Unfit(unfit);
+    match unfit {
+        Some(k) => Err(SurveyError::Unfit(k)),
+        None => Ok(t),
     }
-    Surveyed::Added(t)
 }

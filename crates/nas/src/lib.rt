@@ -46,14 +46,12 @@ use order::order_get;
 use part_answers::{
     decoded_said, encoded_said, found_said, mandated_said, part_checked_said, why_said, wrote_said,
 };
-use reading::decode_optional_ies;
-use reading_by_number::decode_optional_ies_by;
+use reading::{decode_optional_ies, decode_optional_ies_by};
 use rows::index::place_of;
 use seen::Seen;
 use values::show::show;
 use why::{why_set_aside, why_set_aside_by};
-use writing::encode_optional_ies;
-use writing_by_number::encode_optional_ies_by;
+use writing::{encode_optional_ies, encode_optional_ies_by};
 
 // The length of an unknown element from the octets from its first octet on: 0 and the length, or 1, cut short, and the octets missing.
 #[unsafe(no_mangle)]
@@ -132,7 +130,7 @@ pub extern "C" fn nas_kept_get(log: &[u8], used: usize, k: usize, values: &mut [
 pub extern "C" fn nas_kept_clear(log: &[u8], used: usize, values: &mut [u64; 5]) -> u32
     ensures { Says (kept_clear (used_of log.now used)).said result values.old values.new }
 {
-    pushed_said(kept_clear(log, used), 2, 2, values)
+    pushed_said(Ok(kept_clear(log, used)), 2, 2, values)
 }
 
 // An entry behind the octets used of an order log, 0 with the IEI, or 1 to 4, whatever the IEI: 0 and the octets then used; 3;

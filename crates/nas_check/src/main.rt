@@ -4,13 +4,10 @@
 
 use arguments::argument_or;
 use std::process::ExitCode;
-use streams::{FAILED, read_part, tell, write_text};
+use streams::{MOST_READ, Status, read_part, write_text};
 use verdicts::check_text;
 
-// One octet more than a part may have, so that a longer part is seen.
-const MOST_READ: usize = 4097;
-
-fn say(rt: &HostRuntime, part: &[u8]) -> u8 {
+fn say(rt: &HostRuntime, part: &[u8]) -> Status {
     let mut text = [0u8; 64];
     let number = argument_or(rt, 1, 0);
     let told = check_text(number, part, &mut text);
@@ -23,16 +20,14 @@ fn say(rt: &HostRuntime, part: &[u8]) -> u8 {
     )
 }
 
-fn say_input(rt: &HostRuntime) -> u8 {
+fn say_input(rt: &HostRuntime) -> Status {
     let mut part = [0u8; MOST_READ];
-    let input = read_part(rt, &mut part, b"nas-check: standard input");
-    if input.failed {
-        return FAILED;
-    }
-    let len = input.len;
+    let Ok(len) = read_part(rt, &mut part, b"nas-check: standard input") else {
+        return Status::Failed;
+    };
     say(rt, &part[..len])
 }
 
 fn main(rt: HostRuntime) -> ExitCode {
-    tell(say_input(&rt))
+    ExitCode::from(say_input(&rt))
 }

@@ -16,9 +16,12 @@ use Rattle.definitions.proofs.PlainLaws.{kept-none}
 use Rattle.definitions.proofs.Readings.{read-long, read-rows, read-cut, read_done}
 use Rattle.plain_reading.specs.Plains.{plain_in, Plainly}
 use Rattle.plain_reading.proofs.Copied.{plain-decodes}
-use Rattle.filling.specs.Decodes.{lent_of, Reads}
-use Rattle.filling.specs.declared.Decoded.{Decoded}
+use Rattle.std.specs.Prelude.{Ok, Err}
+use Rattle.filling.specs.Decodes.{Decoded, lent_of, Reads}
+use Rattle.filling.specs.declared.DecodeError.{DecodeError}
 use Rattle.filling.specs.declared.Room.{Room}
+use Rattle.elements.specs.declared.element.Cut.{Cut}
+use Rattle.elements.specs.declared.walk.Tally.{Tally}
 use Rattle.filling.proofs.Noting.{refused}
 
 -- ---- a part of which the table says all
@@ -48,20 +51,20 @@ module _ (table : List ℕ) (start : ℕ) (option : Bool) (part rows kept order 
   abbrev r : Read
   r = reading table start option part l
 
-  pub long : most_octets < length part → Reads r Decoded.TooLong rows kept order
+  pub long : most_octets < length part → Reads r (Err DecodeError.TooLong) rows kept order
   long h = refused {l = l} (read-long table start option part l passes h) refl
 
   module _ (short : length part ≤ most_octets) where
-    pub no_rows : length rows < 4 * length t → Reads r (Decoded.NoRoom Room.Rows) rows kept order
+    pub no_rows : length rows < 4 * length t → Reads r (Err (DecodeError.NoRoom Room.Rows)) rows kept order
     no_rows h = refused {l = l} (read-rows table start option part l passes short h) refl
 
     module _ (room : 4 * length t ≤ length rows) where
-      pub cut_short_lem : {a x n m : ℕ} → p ≡ cut_short a x n m → Reads r (Decoded.CutShort a x n m) rows kept order
+      pub cut_short_lem : {c : Cut} → p ≡ cut_short c.start c.first c.left c.missing → Reads r (Err (DecodeError.CutShort c)) rows kept order
       cut_short_lem e = refused {l = l} (read-cut table start option part l passes short room e) refl
 
       -- what is left where reading is done
-      pub answered : {k o : ℕ} {rows' kept' order' : List ℕ} → let es : List Element = elements_of p in p ≡ elements es → k ≡ length (kept_of es) → o ≡ length (order_of t es) → k ≤ length kept → o ≤ length order
-          → rows' ≡ over (place_rows t es) rows → kept' ≡ over (kept_of es) kept → order' ≡ over (order_of t es) order → Reads r (Decoded.Done k o) rows' kept' order'
+      pub answered : {u : Tally} {rows' kept' order' : List ℕ} → let es : List Element = elements_of p in p ≡ elements es → u.kept ≡ length (kept_of es) → u.order ≡ length (order_of t es) → u.kept ≤ length kept → u.order ≤ length order
+          → rows' ≡ over (place_rows t es) rows → kept' ≡ over (kept_of es) kept → order' ≡ over (order_of t es) order → Reads r (Ok u) rows' kept' order'
       unfolding read_elements
       answered d k-is o_is k-room o-room rows_are kept-is order_is =
           let e : r ≡ read_elements t l (elements_of p) = read_done table start option part l passes short room (elements_of p) d (omega arith) (omega arith) in
@@ -73,7 +76,7 @@ module _ (table : List ℕ) (start : ℕ) (option : Bool) (part rows kept order 
           }
 
       -- where the table says it all, nothing is needed of the logs
-      pub all_plain : {rows' : List ℕ} → Plainly t p true rows rows' → Reads r (Decoded.Done 0 0) rows' kept order
+      pub all_plain : {rows' : List ℕ} → Plainly t p true rows rows' → Reads r (Ok (record { kept = 0; order = 0 })) rows' kept order
       unfolding over
       all_plain w =
           let k : kept_of (elements_of p) ≡ [] = plain-kept t p (sym w.is) in

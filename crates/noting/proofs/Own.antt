@@ -19,8 +19,7 @@ use Rattle.rows.specs.Indexed.{Indexed}
 use Rattle.by_index.specs.ByIndex.{rows_by}
 use Rattle.by_index.proofs.Own.{parted-same}
 use Rattle.plain_reading.specs.Plains.{plain_in}
-use Rattle.filling.specs.Decodes.{lent_of, Reads as Answers}
-use Rattle.filling.specs.declared.Decoded.{Decoded}
+use Rattle.filling.specs.Decodes.{Decoded, lent_of, Reads as Answers}
 use Rattle.filling.specs.Noted.{noted_elements, noted, Unplain}
 use Rattle.filling.proofs.Own.{rows_same}
 use Rattle.filling.proofs.Noting.{note-long, note-rows, note-cut, note-kept, note-order, note-done}

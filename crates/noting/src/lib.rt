@@ -12,8 +12,8 @@ ghost use Rattle.rows.specs.Indexed.{Indexed};
 ghost use Rattle.filling.specs.Decodes.{lent_of, Reads};
 ghost use Rattle.filling.specs.Noted.{Unplain, noted};
 
-use crate::short::{MOST_ROWS, MOST_SHORT, MOST_SHORTEST, decode_short, decode_shortest};
-use filling::{Decoded, Room, fill_measured};
+use crate::short::{MOST_ROWS, MOST_SHORT, MOST_SHORTEST, SHORT_LOG, SHORTEST_LOG, decode_into};
+use filling::{DecodeError, Decoded, Room, fill_measured};
 use octets::MOST_OCTETS;
 use rows::columns::places;
 
@@ -32,28 +32,22 @@ pub fn decode_noted(
     ensures own_index { Indexed table.now index.now → first_bad (rows_of table.now) ≡ none → Unplain (rows_of table.now) tlve_start option octets.now rows.old → Reads (reading table.now tlve_start option octets.now (lent_of rows.old kept.old order.old)) result rows.new kept.new order.new }
 {
     if octets.len() > MOST_OCTETS {
-        return Decoded::TooLong;
+        return Err(DecodeError::TooLong);
     }
-    let count = places(&*table);
+    let count = places(table);
     if rows.len() / 4 < count {
-        return Decoded::NoRoom(Room::Rows);
+        return Err(DecodeError::NoRoom(Room::Rows));
     }
     let n = 4 * count;
-    if octets.len() <= MOST_SHORTEST {
-        if n <= MOST_SHORTEST {
-            return decode_shortest(
-                &*octets, &*table, &*index, tlve_start, option, n, rows, kept, order,
-            );
-        }
+    if octets.len() <= MOST_SHORTEST && n <= MOST_SHORTEST {
+        return decode_into::<MOST_SHORTEST, SHORTEST_LOG>(
+            octets, table, index, tlve_start, option, n, rows, kept, order,
+        );
     }
-    if octets.len() <= MOST_SHORT {
-        if n <= MOST_ROWS {
-            return decode_short(
-                &*octets, &*table, &*index, tlve_start, option, n, rows, kept, order,
-            );
-        }
+    if octets.len() <= MOST_SHORT && n <= MOST_ROWS {
+        return decode_into::<MOST_ROWS, SHORT_LOG>(
+            octets, table, index, tlve_start, option, n, rows, kept, order,
+        );
     }
-    fill_measured(
-        &*octets, &*table, &*index, tlve_start, option, rows, kept, order,
-    )
+    fill_measured(octets, table, index, tlve_start, option, rows, kept, order)
 }

@@ -14,8 +14,8 @@ use Rattle.definitions.specs.Rows.{rows_of}
 use Rattle.definitions.specs.Logs.{order_list, order_list_f, kept_list, kept_list_f, or_empty}
 use Rattle.placing.specs.Pieces.{Lent, ranged, held_to, WroteBy, capacity}
 use Rattle.one_pass.specs.Passes.{passed, left_by, passed_by, short_by}
-use Rattle.placing.specs.declared.Passed.{Passed}
 use Rattle.placing.proofs.Pieces.{none-not}
+use Rattle.std.specs.Prelude.{Option as Answered, Some, None}
 use Rattle.unnamed.proofs.Naming.{joined-last, names-empty, none_named}
 
 -- without logs there are the places alone
@@ -26,7 +26,7 @@ unlogged m ix =
     let z : n - 0 ≡ n = omega arith in
     rw (z, names-empty ix m.rows n, none_named m n 0) (sym (joined-last (ranged m 0 n)))
 
-pub without-logs : (m : Lent) (ix order kept : List ℕ) → length order ≡ 0 → length kept ≡ 0 → {before after : List ℕ} {r : Passed}
+pub without-logs : (m : Lent) (ix order kept : List ℕ) → length order ≡ 0 → length kept ≡ 0 → {before after : List ℕ} {r : Answered ℕ}
     → WroteBy (capacity (length (rows_of m.table)) 0) (ranged m 0 (length (rows_of m.table))) before r after
     → WroteBy (capacity (length (rows_of m.table)) (length kept)) (short_by m ix order kept) before r after
 without-logs m ix [] [] h g w = rw (unlogged m ix) at w
@@ -38,7 +38,7 @@ pub short-enough : (m : Lent) (ix order kept : List ℕ) → length kept ≤ 512
 unfolding short_by
 short-enough m ix order kept h = rw (le-ltb 512 (length kept))
 
-pub not_short : (m : Lent) (ix order kept : List ℕ) → 512 < length kept → {room : ℕ} {before : List ℕ} → WroteBy room (short_by m ix order kept) before Passed.Not before
+pub not_short : (m : Lent) (ix order kept : List ℕ) → 512 < length kept → {room : ℕ} {before : List ℕ} → WroteBy room (short_by m ix order kept) before None before
 unfolding short_by
 not_short m ix order kept h {room = room} {before = before} =
     record { answers = sym (none-not (min room (length before)) 0 (rw (lt-ltb 512 (length kept)))); done = λ n e. let y : ◌≡◌ {A = ℕ} 0 1 = cc in absurd (omega arith); not_done = λ e. refl }
@@ -61,15 +61,15 @@ module _ (m : Lent) (ix order kept : List ℕ) (room : ℕ) (before : List ℕ) 
       by true f = let y : ◌≡◌ {A = ℕ} 0 1 = cc in absurd (omega arith)
       by false f = f
 
-  pub wrote-all : {n : ℕ} {after : List ℕ} → WroteBy room (short_by m ix order kept) before (Passed.To n) after → WroteAll m ix order kept before n after
+  pub wrote-all : {n : ℕ} {after : List ℕ} → WroteBy room (short_by m ix order kept) before (Some n) after → WroteAll m ix order kept before n after
   unfolding held_to or_empty
   wrote-all {n = n} {after = after} w = by (short_by m ix order kept) refl w.answers (w.done n refl)
     where
-      by : (o : Option (List ℕ)) → short_by m ix order kept ≡ o → Passed.To n ≡ held_to (min room (length before)) 0 o → after ≡ over (or_empty o) before → WroteAll m ix order kept before n after
+      by : (o : Option (List ℕ)) → short_by m ix order kept ≡ o → Some n ≡ held_to (min room (length before)) 0 o → after ≡ over (or_empty o) before → WroteAll m ix order kept before n after
       by none e a d = let y : ◌≡◌ {A = ℕ} 0 1 = cc in absurd (omega arith)
       by (some s) e a d = held_by (leb (0 + length s) (min room (length before))) refl a
         where
-          held_by : (b : Bool) → leb (0 + length s) (min room (length before)) ≡ b → Passed.To n ≡ pick b (Passed.To (0 + length s)) Passed.Not → WroteAll m ix order kept before n after
+          held_by : (b : Bool) → leb (0 + length s) (min room (length before)) ≡ b → Some n ≡ pick b (Some (0 + length s)) None → WroteAll m ix order kept before n after
           held_by false q f = let y : ◌≡◌ {A = ℕ} 0 1 = cc in absurd (omega arith)
           held_by true q f =
               let y : n ≡ 0 + length s = cc in

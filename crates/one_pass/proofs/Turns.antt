@@ -16,9 +16,8 @@ use Rattle.definitions.proofs.Logs.{kept-nil}
 use Rattle.placing.specs.Pieces.{Lent, joined, piece_by, held_to, PutBy}
 use Rattle.unnamed.specs.Named.{names, unnamed}
 use Rattle.one_pass.specs.Passes.{concat_by, rest_by, passed, left_by, passed_by, KeptNot, malformed, too_long, KeptBy, over-all, next_one, NextBy, KnownOn, KnownBy, EntryOn, EntryBy, Passing}
-use Rattle.placing.specs.declared.Passed.{Passed}
-use Rattle.one_pass.specs.declared.Went.{Went}
 use Rattle.one_pass.specs.declared.Pen.{Pen}
+use Rattle.std.specs.Prelude.{Option as Answered, Some, None}
 use Rattle.placing.proofs.Pieces.{held, held-long, put-not, none-not, long-not, joined-none, put_then_lem, put-stop, leads-begun, leads-on, leads-as}
 
 -- ---- what is left behind an entry
@@ -100,7 +99,7 @@ unfolding concat_by concat
 concat-over kept at h = ap concat_by (kept-nil (drop at kept) (simp length-drop (omega arith)))
 
 -- where the next kept element is not put, nothing that begins with it is
-pub kept-not : {kept : List ℕ} {p : Pen} {room : ℕ} → KeptNot kept p room → held_to room p.at (concat_by (kept_list (drop p.kept kept))) ≡ Passed.Not
+pub kept-not : {kept : List ℕ} {p : Pen} {room : ℕ} → KeptNot kept p room → held_to room p.at (concat_by (kept_list (drop p.kept kept))) ≡ None
 unfolding concat_by
 kept-not {p = p} {room = room} (malformed e) = none-not room p.at (rw e)
 kept-not {p = p} {room = room} (too_long e o s l) = rw (s, concat-next e o) (put-stop room p.at (some e) (concat_by o) (long-not room p.at refl l))
@@ -108,9 +107,9 @@ kept-not {p = p} {room = room} (too_long e o s l) = rw (s, concat-next e o) (put
 -- ---- a turn
 
 -- the next kept element, where there is one
-pub next-by : (kept : List ℕ) (p : Pen) (before after : List ℕ) (r : Went) → KeptBy kept p before r after → NextBy kept p before r after
-next-by kept p before after (Went.To q) k = next_one k
-next-by kept p before after Went.Not k = k
+pub next-by : (kept : List ℕ) (p : Pen) (before after : List ℕ) (r : Answered Pen) → KeptBy kept p before r after → NextBy kept p before r after
+next-by kept p before after (Some q) k = next_one k
+next-by kept p before after None k = k
 
 module _ (m : Lent) (ix : List ℕ) (set : ℕ) (kept : List ℕ) (e : Placed) (a : Aside e) (p : Pen) (before after : List ℕ) (inside : p.at ≤ length before) (within : p.kept ≤ length kept) where
   over-turn : {q : Pen} → p.kept ≡ length kept → q ≡ p → after ≡ before → EntryOn m ix set kept e p before q after
@@ -123,16 +122,16 @@ module _ (m : Lent) (ix : List ℕ) (set : ℕ) (kept : List ℕ) (e : Placed) (
         room = inside;
       })
 
-  pub aside-turn : (r : Went) → NextBy kept p before r after → EntryBy m ix set kept e p before r after
-  aside-turn (Went.To q) (over-all h i j) = over-turn h i j
-  aside-turn (Went.To q) (next_one k) =
+  pub aside-turn : (r : Answered Pen) → NextBy kept p before r after → EntryBy m ix set kept e p before r after
+  aside-turn (Some q) (over-all h i j) = over-turn h i j
+  aside-turn (Some q) (next_one k) =
       record {
         leads = λ ps. rw (k.place, k.rest, left-kept m ix set e a k.element ps p.place (kept_list (drop q.kept kept))) (leads-on (left_by m ix set ps p.place (kept_list (drop q.kept kept))) leads-begun k.holds);
         inside = k.inside;
         room = (held k.holds).room;
       }
-  aside-turn Went.Not (malformed z) = λ ps. none-not (length before) p.at (rw z (left-none m ix set (put e ps) p.place))
-  aside-turn Went.Not (too_long x o s l) = λ ps. rw (s, left-kept m ix set e a x ps p.place o) (put-stop (length before) p.at (some x) (left_by m ix set ps p.place o) (long-not (length before) p.at refl l))
+  aside-turn None (malformed z) = λ ps. none-not (length before) p.at (rw z (left-none m ix set (put e ps) p.place))
+  aside-turn None (too_long x o s l) = λ ps. rw (s, left-kept m ix set e a x ps p.place o) (put-stop (length before) p.at (some x) (left_by m ix set ps p.place o) (long-not (length before) p.at refl l))
 
 -- ---- a known entry
 
@@ -163,7 +162,7 @@ module _ (m : Lent) (ix : List ℕ) (set i : ℕ) (p : Pen) (before : List ℕ) 
   nowhere-turn h e = record { leads = λ ps ks. rw (left-nowhere m ix set i p.place e ps ks) leads-begun; kept = refl; room = h }
 
   module _ {k : ℕ} (e : place_in ix i ≡ some k) where
-    pub lower-not : k < p.place → bit k set ≡ false → (ps : Option (List Placed)) (ks : Option (List (List ℕ))) → held_to (length before) p.at (left_by m ix set (put (known_iei i) ps) p.place ks) ≡ Passed.Not
+    pub lower-not : k < p.place → bit k set ≡ false → (ps : Option (List Placed)) (ks : Option (List (List ℕ))) → held_to (length before) p.at (left_by m ix set (put (known_iei i) ps) p.place ks) ≡ None
     lower-not h b ps ks = none-not (length before) p.at (left-lower m ix set i p.place e h b ps ks)
 
     -- a place that none came before, or that is named
@@ -171,21 +170,21 @@ module _ (m : Lent) (ix : List ℕ) (set i : ℕ) (p : Pen) (before : List ℕ) 
     InTurn = (ltb k p.place && not (bit k set)) ≡ false
 
     module _ (h : InTurn) where
-      pub between-not : {mid : List ℕ} → PutBy (unnamed m set p.place (k - p.place)) p.at before Passed.Not mid → (ps : Option (List Placed)) (ks : Option (List (List ℕ)))
-          → held_to (length before) p.at (left_by m ix set (put (known_iei i) ps) p.place ks) ≡ Passed.Not
+      pub between-not : {mid : List ℕ} → PutBy (unnamed m set p.place (k - p.place)) p.at before None mid → (ps : Option (List Placed)) (ks : Option (List (List ℕ)))
+          → held_to (length before) p.at (left_by m ix set (put (known_iei i) ps) p.place ks) ≡ None
       between-not b ps ks =
           rw (left-known m ix set i p.place e h ps ks)
           (put-stop (length before) p.at (unnamed m set p.place (k - p.place)) (joined (piece_by m k i) (left_by m ix set ps (max p.place (suc k)) ks)) (sym b.answers))
 
-      module _ {at : ℕ} {mid : List ℕ} (b : PutBy (unnamed m set p.place (k - p.place)) p.at before (Passed.To at) mid) where
-        pub known-not : {after : List ℕ} → PutBy (piece_by m k i) at mid Passed.Not after → (ps : Option (List Placed)) (ks : Option (List (List ℕ)))
-            → held_to (length before) p.at (left_by m ix set (put (known_iei i) ps) p.place ks) ≡ Passed.Not
+      module _ {at : ℕ} {mid : List ℕ} (b : PutBy (unnamed m set p.place (k - p.place)) p.at before (Some at) mid) where
+        pub known-not : {after : List ℕ} → PutBy (piece_by m k i) at mid None after → (ps : Option (List Placed)) (ks : Option (List (List ℕ)))
+            → held_to (length before) p.at (left_by m ix set (put (known_iei i) ps) p.place ks) ≡ None
         known-not {after = after} l ps ks =
             let rest : Option (List ℕ) = left_by m ix set ps (max p.place (suc k)) ks in
             rw (left-known m ix set i p.place e h ps ks)
             (sym (put_then_lem b (joined (piece_by m k i) rest) (put-not {after = after} (put-stop (length mid) at (piece_by m k i) rest (sym l.answers)))).answers)
 
-        pub known-turn : {next place : ℕ} {after : List ℕ} → place ≡ max p.place (suc k) → PutBy (piece_by m k i) at mid (Passed.To next) after
+        pub known-turn : {next place : ℕ} {after : List ℕ} → place ≡ max p.place (suc k) → PutBy (piece_by m k i) at mid (Some next) after
             → KnownOn m ix set i p before (record { at = next; kept = p.kept; place = place }) after
         known-turn {place = place} z l =
             record {
@@ -195,9 +194,9 @@ module _ (m : Lent) (ix : List ℕ) (set i : ℕ) (p : Pen) (before : List ℕ) 
             }
 
   -- as an entry
-  pub known_by : (kept after : List ℕ) → p.kept ≤ length kept → (r : Went) → KnownBy m ix set i p before r after → EntryBy m ix set kept (known_iei i) p before r after
-  known_by kept after h (Went.To q) k = record { leads = λ ps. rw k.kept (k.leads ps (kept_list (drop p.kept kept))); inside = omega (arith, k.kept); room = k.room }
-  known_by kept after h Went.Not n = λ ps. n ps (kept_list (drop p.kept kept))
+  pub known_by : (kept after : List ℕ) → p.kept ≤ length kept → (r : Answered Pen) → KnownBy m ix set i p before r after → EntryBy m ix set kept (known_iei i) p before r after
+  known_by kept after h (Some q) k = record { leads = λ ps. rw k.kept (k.leads ps (kept_list (drop p.kept kept))); inside = omega (arith, k.kept); room = k.room }
+  known_by kept after h None n = λ ps. n ps (kept_list (drop p.kept kept))
 
 -- ---- the whole log
 
@@ -218,10 +217,10 @@ module _ (m : Lent) (ix : List ℕ) (set : ℕ) (order kept before : List ℕ) w
           long = long ∙ l.long;
         }
 
-    pub passing-not : held_to (length mid) p.at (left_by m ix set o p.place (kept_list (drop p.kept kept))) ≡ Passed.Not → held_to (length before) 0 whole ≡ Passed.Not
-    passing-not n = sym (l.leads Passed.Not mid (put-not n)).answers
+    pub passing-not : held_to (length mid) p.at (left_by m ix set o p.place (kept_list (drop p.kept kept))) ≡ None → held_to (length before) 0 whole ≡ None
+    passing-not n = sym (l.leads None mid (put-not n)).answers
 
-    pub passing-stopped : o ≡ none → held_to (length before) 0 whole ≡ Passed.Not
+    pub passing-stopped : o ≡ none → held_to (length before) 0 whole ≡ None
     unfolding left_by
     passing-stopped e = passing-not (none-not (length mid) p.at (rw e))
 
@@ -229,7 +228,7 @@ module _ (m : Lent) (ix : List ℕ) (set : ℕ) (order kept before : List ℕ) w
     passing-as e = rw e at l
 
   -- behind the log there is the rest
-  pub passing-end : {p : Pen} {mid : List ℕ} → Passing m ix set order kept before (some []) p mid → {r : Passed} {after : List ℕ} → PutBy (rest_by m set kept p) p.at mid r after → PutBy whole 0 before r after
+  pub passing-end : {p : Pen} {mid : List ℕ} → Passing m ix set order kept before (some []) p mid → {r : Answered ℕ} {after : List ℕ} → PutBy (rest_by m set kept p) p.at mid r after → PutBy whole 0 before r after
   passing-end {p = p} l {r = r} {after = after} = leads-as (left_end m ix set p.place (kept_list (drop p.kept kept))) l.leads r after
 
 -- by the places that the log names

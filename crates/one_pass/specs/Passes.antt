@@ -2,15 +2,13 @@
 -- well formed, agrees with the log and fits; else none. A place that the order log names and that is not above all that it named before has to be
 -- in the set of names; else there is none either. A pass goes by the numbers of a table and by an index as they are lent. Where it gives octets, by a table that
 -- passes and its own index, they are those of writing: `wholly`.
-use Rattle.std.specs.Prelude.{ℕ, suc, ◌+◌, ◌-◌, ◌≤◌, ◌<◌, max, ◌≡◌, List, [], ◌∷◌, not, ◌&&◌, length, drop, ltb}
+use Rattle.std.specs.Prelude.{ℕ, suc, ◌+◌, ◌-◌, ◌≤◌, ◌<◌, max, ◌≡◌, List, [], ◌∷◌, not, ◌&&◌, length, drop, ltb, Option as Answered, Some, None}
 use Rattle.std.proofs.Math.Option.{Option, none, some}
 use Rattle.definitions.specs.Basic.{pick, bit, concat}
 use Rattle.definitions.specs.Rows.{rows_of, place_in}
 use Rattle.definitions.specs.Logs.{Placed, known_iei, not_known, ignored, kept_list, order_list, put}
 use Rattle.placing.specs.Pieces.{Lent, joined, piece_by, held_to, PutBy, Leads}
-use Rattle.placing.specs.declared.Passed.{Passed}
 use Rattle.unnamed.specs.Named.{names, unnamed}
-use Rattle.one_pass.specs.declared.Went.{Went}
 use Rattle.one_pass.specs.declared.Pen.{Pen}
 
 -- ---- the entries
@@ -53,7 +51,7 @@ passed_by m ix order kept = left_by m ix (names ix m.rows order (length (rows_of
 -- behind a kept element
 pub record KeptPut (kept : List ℕ) (p : Pen) (before : List ℕ) (q : Pen) (after : List ℕ) : Type 0 where
   pub element : List ℕ
-  pub holds : PutBy (some element) p.at before (Passed.To q.at) after
+  pub holds : PutBy (some element) p.at before (Some q.at) after
   pub rest : kept_list (drop p.kept kept) ≡ put element (kept_list (drop q.kept kept))
   pub inside : q.kept ≤ length kept
   pub further : p.kept < q.kept
@@ -64,18 +62,18 @@ pub data KeptNot (kept : List ℕ) (p : Pen) (room : ℕ) : Type 0 where
   malformed : kept_list (drop p.kept kept) ≡ none → KeptNot kept p room
   too_long : (e : List ℕ) (o : Option (List (List ℕ))) → kept_list (drop p.kept kept) ≡ put e o → room < p.at + length e → KeptNot kept p room
 
-abbrev pub KeptBy : List ℕ → Pen → List ℕ → Went → List ℕ → Type 0
-KeptBy kept p before (Went.To q) after = KeptPut kept p before q after
-KeptBy kept p before Went.Not after = KeptNot kept p (length before)
+abbrev pub KeptBy : List ℕ → Pen → List ℕ → Answered Pen → List ℕ → Type 0
+KeptBy kept p before (Some q) after = KeptPut kept p before q after
+KeptBy kept p before None after = KeptNot kept p (length before)
 
 -- the same where there may be none left
 pub data NextPut (kept : List ℕ) (p : Pen) (before : List ℕ) (q : Pen) (after : List ℕ) : Type 0 where
   over-all : p.kept ≡ length kept → q ≡ p → after ≡ before → NextPut kept p before q after
   next_one : KeptPut kept p before q after → NextPut kept p before q after
 
-abbrev pub NextBy : List ℕ → Pen → List ℕ → Went → List ℕ → Type 0
-NextBy kept p before (Went.To q) after = NextPut kept p before q after
-NextBy kept p before Went.Not after = KeptNot kept p (length before)
+abbrev pub NextBy : List ℕ → Pen → List ℕ → Answered Pen → List ℕ → Type 0
+NextBy kept p before (Some q) after = NextPut kept p before q after
+NextBy kept p before None after = KeptNot kept p (length before)
 
 -- behind a known entry, whatever is left of both logs
 pub record KnownOn (m : Lent) (ix : List ℕ) (set i : ℕ) (p : Pen) (before : List ℕ) (q : Pen) (after : List ℕ) : Type 0 where
@@ -83,10 +81,10 @@ pub record KnownOn (m : Lent) (ix : List ℕ) (set i : ℕ) (p : Pen) (before : 
   pub kept : q.kept ≡ p.kept
   pub room : q.at ≤ length before
 
-abbrev pub KnownBy : Lent → List ℕ → ℕ → ℕ → Pen → List ℕ → Went → List ℕ → Type 0
-KnownBy m ix set i p before (Went.To q) after = KnownOn m ix set i p before q after
-KnownBy m ix set i p before Went.Not after =
-    (ps : Option (List Placed)) (ks : Option (List (List ℕ))) → held_to (length before) p.at (left_by m ix set (put (known_iei i) ps) p.place ks) ≡ Passed.Not
+abbrev pub KnownBy : Lent → List ℕ → ℕ → ℕ → Pen → List ℕ → Answered Pen → List ℕ → Type 0
+KnownBy m ix set i p before (Some q) after = KnownOn m ix set i p before q after
+KnownBy m ix set i p before None after =
+    (ps : Option (List Placed)) (ks : Option (List (List ℕ))) → held_to (length before) p.at (left_by m ix set (put (known_iei i) ps) p.place ks) ≡ None
 
 -- behind any entry, by what is left of the kept log
 pub record EntryOn (m : Lent) (ix : List ℕ) (set : ℕ) (kept : List ℕ) (e : Placed) (p : Pen) (before : List ℕ) (q : Pen) (after : List ℕ) : Type 0 where
@@ -95,10 +93,10 @@ pub record EntryOn (m : Lent) (ix : List ℕ) (set : ℕ) (kept : List ℕ) (e :
   pub inside : q.kept ≤ length kept
   pub room : q.at ≤ length before
 
-abbrev pub EntryBy : Lent → List ℕ → ℕ → List ℕ → Placed → Pen → List ℕ → Went → List ℕ → Type 0
-EntryBy m ix set kept e p before (Went.To q) after = EntryOn m ix set kept e p before q after
-EntryBy m ix set kept e p before Went.Not after =
-    (ps : Option (List Placed)) → held_to (length before) p.at (left_by m ix set (put e ps) p.place (kept_list (drop p.kept kept))) ≡ Passed.Not
+abbrev pub EntryBy : Lent → List ℕ → ℕ → List ℕ → Placed → Pen → List ℕ → Answered Pen → List ℕ → Type 0
+EntryBy m ix set kept e p before (Some q) after = EntryOn m ix set kept e p before q after
+EntryBy m ix set kept e p before None after =
+    (ps : Option (List Placed)) → held_to (length before) p.at (left_by m ix set (put e ps) p.place (kept_list (drop p.kept kept))) ≡ None
 
 -- behind entries, with more left
 pub record Passing (m : Lent) (ix : List ℕ) (set : ℕ) (order kept before : List ℕ) (ps : Option (List Placed)) (q : Pen) (after : List ℕ) : Type 0 where
@@ -107,9 +105,9 @@ pub record Passing (m : Lent) (ix : List ℕ) (set : ℕ) (order kept before : L
   pub room : q.at ≤ length before
   pub long : length after ≡ length before
 
-abbrev pub EntriesBy : Lent → List ℕ → ℕ → List ℕ → List ℕ → List ℕ → Went → List ℕ → Type 0
-EntriesBy m ix set order kept before (Went.To q) after = Passing m ix set order kept before (some []) q after
-EntriesBy m ix set order kept before Went.Not after = held_to (length before) 0 (left_by m ix set (order_list order) 0 (kept_list kept)) ≡ Passed.Not
+abbrev pub EntriesBy : Lent → List ℕ → ℕ → List ℕ → List ℕ → List ℕ → Answered Pen → List ℕ → Type 0
+EntriesBy m ix set order kept before (Some q) after = Passing m ix set order kept before (some []) q after
+EntriesBy m ix set order kept before None after = held_to (length before) 0 (left_by m ix set (order_list order) 0 (kept_list kept)) ≡ None
 
 -- what a message is written as whose kept log has at most 512 octets; none of another
 unfoldable pub short_by : Lent → List ℕ → List ℕ → List ℕ → Option (List ℕ)

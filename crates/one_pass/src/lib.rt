@@ -14,63 +14,52 @@ ghost use Rattle.one_pass.specs.Passes.{concat_by, rest_by, passed_by, short_by,
 
 use copying::put_slice;
 use kept::{Count, entry_at};
-use order::{Front, Placed, entry_len, front_at};
-use placing::{Passed, copy_out, is_few, put_logged};
+use order::{Placed, entry_len, front_at};
+use placing::{copy_out, is_few, put_logged};
 use plain_writing::write_plain;
 use rows::columns::places;
-use rows::index::{Place, place_of};
-use seen::{Seen, seen_has};
+use rows::index::place_of;
+use seen::Seen;
 use unnamed::{names_of, put_unnamed};
 
 // The most octets of a kept log that is looked at.
 const MOST_SHORT: usize = 512;
 
 // Where a pass is: the position in the array, the position in the kept log, and the place below which every place was looked at.
-#[derive(Clone, Copy)]
+#[derive(Clone, Copy, PartialEq, Eq)]
 pub struct Pen {
     pub at: usize,
     pub kept: usize,
     pub place: usize,
 }
 
-#[derive(Clone, Copy)]
-pub enum Went {
-    To(Pen),
-    Not,
-}
-
 // The next kept element.
-fn pass_kept(kept: &[u8], pen: Pen, out: &mut [u8]) -> Went
+fn pass_kept(kept: &[u8], pen: Pen, out: &mut [u8]) -> Option<Pen>
     requires { (pen.kept < length kept.now) × (pen.at ≤ length out.old) }
     ensures { KeptBy kept.now pen out.old result out.new }
 {
+    let Count { value, took } = entry_at(&kept[pen.kept..])?;
     let at = pen.at;
-    let from = pen.kept;
-    match entry_at(&kept[from..]) {
-        Count::Is(value, took) => {
-            if out.len() - at < value {
-                return Went::Not;
-            }
-            let start = from + took;
-            let end = start + value;
-            put_slice(&mut out[at..], &kept[start..end]);
-            Went::To(Pen {
-                at: at + value,
-                kept: end,
-                place: pen.place,
-            })
-        }
-        Count::Not => Went::Not,
+    if out.len() - at < value {
+        return None;
     }
+    let start = pen.kept + took;
+    let end = start + value;
+    put_slice(&mut out[at..], &kept[start..end]);
+    Some(Pen {
+        at: at + value,
+        kept: end,
+        ..pen
+    })
 }
 
 // The same, if there is one.
-fn pass_next(kept: &[u8], pen: Pen, out: &mut [u8]) -> Went
+fn pass_next(kept: &[u8], pen: Pen, out: &mut [u8]) -> Option<Pen>
     requires { (pen.at ≤ length out.old) × (pen.kept ≤ length kept.now) }
     ensures { NextBy kept.now pen out.old result out.new }
 {
     if pen.kept >= kept.len() {
-        return Went::To(pen);
+        return Some(pen);
     }
     pass_kept(kept, pen, out)
 }
@@ -89,41 +78,26 @@ fn pass_known<'a>(
     iei: u8,
     pen: Pen,
     out: &mut [u8],
-) -> Went
+) -> Option<Pen>
     requires { pen.at ≤ length out.old }
     ensures { KnownBy (lent_of table.now rows.now received.now set.now) index.now (set_of names) iei pen out.old result out.new }
 {
-    match place_of(index, iei) {
-        Place::At(k) => {
-            let mut at = pen.at;
-            let mut place = k + 1;
-            if k < pen.place {
-                if !seen_has(names, k) {
-                    return Went::Not;
-                }
-                place = pen.place;
-            }
-            if pen.place < k {
-                match put_unnamed(table, rows, received, set, names, pen.place, k, out, pen.at) {
-                    Passed::To(next) => {
-                        at = next;
-                    }
-                    Passed::Not => {
-                        return Went::Not;
-                    }
-                }
-            }
-            match put_logged(table, rows, received, set, k, iei, out, at) {
-                Passed::To(next) => Went::To(Pen {
-                    at: next,
-                    kept: pen.kept,
-                    place,
-                }),
-                Passed::Not => Went::Not,
-            }
+    let Some(k) = place_of(index, iei) else {
+        return Some(pen);
+    };
+    let mut at = pen.at;
+    let mut place = k + 1;
+    if k < pen.place {
+        if !names.has(k) {
+            return None;
         }
-        Place::Nowhere => Went::To(pen),
+        place = pen.place;
     }
+    if pen.place < k {
+        at = put_unnamed(table, rows, received, set, names, pen.place, k, out, at)?;
+    }
+    let at = put_logged(table, rows, received, set, k, iei, out, at)?;
+    Some(Pen { at, place, ..pen })
 }
 
 // An entry of the order log.
@@ -138,7 +112,7 @@ fn pass_entry<'a>(
     entry: Placed,
     pen: Pen,
     out: &mut [u8],
-) -> Went
+) -> Option<Pen>
     requires { (pen.at ≤ length out.old) × (pen.kept ≤ length kept.now) }
     ensures { EntryBy (lent_of table.now rows.now received.now set.now) index.now (set_of names) kept.now (placed_as entry) pen out.old result out.new }
 {
@@ -159,7 +133,7 @@ fn pass_entries<'a>(
     order: &[u8],
     names: Seen,
     out: &mut [u8],
-) -> Went
+) -> Option<Pen>
     ensures { EntriesBy (lent_of table.now rows.now received.now set.now) index.now (set_of names) order.now kept.now out.old result out.new }
 {
     let mut pen = Pen {
@@ -169,45 +143,25 @@ fn pass_entries<'a>(
     };
     let mut from = 0;
     while from < order.len() {
-        match front_at(&order[from..]) {
-            Front::Is(entry) => {
-                match pass_entry(
-                    table, index, rows, received, set, kept, names, entry, pen, out,
-                ) {
-                    Went::To(next) => {
-                        pen = next;
-                        from += entry_len(entry);
-                    }
-                    Went::Not => {
-                        return Went::Not;
-                    }
-                }
-            }
-            Front::Not => {
-                return Went::Not;
-            }
-        }
+        let entry = front_at(&order[from..])?;
+        pen = pass_entry(
+            table, index, rows, received, set, kept, names, entry, pen, out,
+        )?;
+        from += entry_len(entry);
     }
-    Went::To(pen)
+    Some(pen)
 }
 
 // The kept elements that are left.
-fn pass_left(kept: &[u8], pen: Pen, out: &mut [u8]) -> Passed
+fn pass_left(kept: &[u8], pen: Pen, out: &mut [u8]) -> Option<usize>
     requires { (pen.at ≤ length out.old) × (pen.kept ≤ length kept.now) }
     ensures { PutBy (concat_by (kept_list (drop pen.kept kept.now))) pen.at out.old result out.new }
 {
     let mut p = pen;
     while p.kept < kept.len() {
-        match pass_kept(kept, p, out) {
-            Went::To(next) => {
-                p = next;
-            }
-            Went::Not => {
-                return Passed::Not;
-            }
-        }
+        p = pass_kept(kept, p, out)?;
     }
-    Passed::To(p.at)
+    Some(p.at)
 }
 
 // What is left behind the order log: the unnamed places, then the kept elements.
@@ -220,33 +174,16 @@ fn pass_rest<'a>(
     names: Seen,
     pen: Pen,
     out: &mut [u8],
-) -> Passed
+) -> Option<usize>
     requires { (pen.at ≤ length out.old) × (pen.kept ≤ length kept.now) }
     ensures { PutBy (rest_by (lent_of table.now rows.now received.now set.now) (set_of names) kept.now pen) pen.at out.old result out.new }
 {
-    let n = places(&*table);
+    let n = places(table);
     let mut at = pen.at;
     if pen.place < n {
-        match put_unnamed(
-            &*table, &*rows, &*received, &*set, names, pen.place, n, out, pen.at,
-        ) {
-            Passed::To(next) => {
-                at = next;
-            }
-            Passed::Not => {
-                return Passed::Not;
-            }
-        }
+        at = put_unnamed(table, rows, received, set, names, pen.place, n, out, at)?;
     }
-    pass_left(
-        &*kept,
-        Pen {
-            at,
-            kept: pen.kept,
-            place: pen.place,
-        },
-        out,
-    )
+    pass_left(kept, Pen { at, ..pen }, out)
 }
 
 // All of a message, by the named places.
@@ -259,21 +196,16 @@ fn pass<'a>(
     kept: &[u8],
     order: &[u8],
     out: &mut [u8],
-) -> Passed
+) -> Option<usize>
     ensures { PutBy (passed_by (lent_of table.now rows.now received.now set.now) index.now order.now kept.now) 0 out.old result out.new }
 {
-    let names = names_of(&*index, &*rows, &*order, places(&*table));
-    match pass_entries(
-        &*table, &*index, &*rows, &*received, &*set, &*kept, &*order, names, out,
-    ) {
-        Went::To(pen) => pass_rest(&*table, &*rows, &*received, &*set, &*kept, names, pen, out),
-        Went::Not => Passed::Not,
-    }
+    let names = names_of(index, rows, order, places(table));
+    let pen = pass_entries(table, index, rows, received, set, kept, order, names, out)?;
+    pass_rest(table, rows, received, set, kept, names, pen, out)
 }
 
-// ---- the array is one of two lengths, since it is cleared at each call
-
-fn pass_few<'a>(
+// By an array of so many octets. It is cleared at each call, so it is of one of two lengths.
+fn pass_in<'a, const N: usize>(
     table: &[u32],
     index: &[u8],
     rows: &[u32],
@@ -282,27 +214,11 @@ fn pass_few<'a>(
     kept: &[u8],
     order: &[u8],
     output: &mut [u8],
-) -> Passed
-    ensures { WroteBy 128 (passed_by (lent_of table.now rows.now received.now set.now) index.now order.now kept.now) output.old result output.new }
+) -> Option<usize>
+    requires { N ≤ 512 }
+    ensures { WroteBy N (passed_by (lent_of table.now rows.now received.now set.now) index.now order.now kept.now) output.old result output.new }
 {
-    let mut found = [0u8; 128];
-    let passed = pass(table, index, rows, received, set, kept, order, &mut found);
-    copy_out(output, &found, passed)
-}
-
-fn pass_many<'a>(
-    table: &[u32],
-    index: &[u8],
-    rows: &[u32],
-    received: &'a [u8],
-    set: &'a [u8],
-    kept: &[u8],
-    order: &[u8],
-    output: &mut [u8],
-) -> Passed
-    ensures { WroteBy 512 (passed_by (lent_of table.now rows.now received.now set.now) index.now order.now kept.now) output.old result output.new }
-{
-    let mut found = [0u8; 512];
+    let mut found = [0u8; N];
     let passed = pass(table, index, rows, received, set, kept, order, &mut found);
     copy_out(output, &found, passed)
 }
@@ -317,19 +233,17 @@ pub fn write_pass<'a>(
     kept: &[u8],
     order: &[u8],
     output: &mut [u8],
-) -> Passed
+) -> Option<usize>
     ensures { WroteBy (capacity (length (rows_of table.now)) (length kept.now)) (short_by (lent_of table.now rows.now received.now set.now) index.now order.now kept.now) output.old result output.new }
 {
-    if order.len() == 0 {
-        if kept.len() == 0 {
-            return write_plain(table, rows, received, set, output);
-        }
+    if order.is_empty() && kept.is_empty() {
+        return write_plain(table, rows, received, set, output);
     }
     if kept.len() > MOST_SHORT {
-        return Passed::Not;
+        return None;
     }
     if is_few(places(table), kept.len()) {
-        return pass_few(table, index, rows, received, set, kept, order, output);
+        return pass_in::<128>(table, index, rows, received, set, kept, order, output);
     }
-    pass_many(table, index, rows, received, set, kept, order, output)
+    pass_in::<512>(table, index, rows, received, set, kept, order, output)
 }

@@ -1,9 +1,15 @@
 -- The octets of an order log's entry: those that are set aside have one.
 -- By cases on the reason.
+use Prim.Native.Nat.{ℕ, zero, suc, ◌≤◌, ◌<◌}
+use native.Mathlib.Omega.{arith}
+use mathlib.Core.Option.{none}
+use Rattle.definitions.proofs.Orders.{order_front, front-alone, front-over}
 use mathlib.Core.Path.{◌≡◌, refl, ap}
-use mathlib.Core.List.{[], ◌∷◌}
+use mathlib.Core.List.{List, [], ◌∷◌}
 use lib.ListN.{length, get_or}
 use Rattle.definitions.specs.Logs.{Reason, by_form, again, late, ignored, order_entry}
+use Rattle.order.specs.Order.{reason_as, placed_as}
+use Rattle.order.specs.declared.Placed.{Placed}
 
 pub one-octet : (r : Reason) → order_entry (ignored r) ≡ get_or (order_entry (ignored r)) 0 0 ∷ []
 unfolding order_entry
@@ -13,3 +19,18 @@ one-octet late = refl
 
 pub one-length : (r : Reason) → length (order_entry (ignored r)) ≡ 1
 one-length r = ap length (one-octet r)
+
+-- every entry but an accepted one has one octet
+pub short-length : (p : Placed) → ((i : ℕ) → p ≡ Placed.Known i → ⊥) → length (order_entry (placed_as p)) ≡ 1
+unfolding order_entry
+short-length (Placed.Known i) n = absurd (n i refl)
+short-length Placed.Unknown n = refl
+short-length (Placed.Ignored r) n = one-length (reason_as r)
+
+-- a front that is no entry: a 00 at the end, or an octet over 4
+pub front-not : (s : List ℕ) → 0 < length s → (get_or s 0 0 ≡ 0 → length s ≡ 1) → (1 ≤ get_or s 0 0 → 4 < get_or s 0 0) → order_front s ≡ none
+front-not s h l g = by (get_or s 0 0) refl
+  where
+    by : (x : ℕ) → get_or s 0 0 ≡ x → order_front s ≡ none
+    by zero e = front-alone s (l e) e
+    by (suc n) e = front-over s h (g (omega arith))

@@ -1,4 +1,5 @@
 -- Laws of the answers that proofs cite.
 pub mod Entries
 pub mod OrderWalks
+pub mod Pushes
 pub mod SameAnswers

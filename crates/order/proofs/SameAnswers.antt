@@ -9,7 +9,8 @@ use Rattle.kept.proofs.SameAnswers.{number_of, values_of}
 use Rattle.order.specs.Order.{placed_as, entry_as}
 use Rattle.order.specs.declared.IgnoredIeReason.{IgnoredIeReason}
 use Rattle.order.specs.declared.Placed.{Placed}
-use Rattle.order.specs.declared.Entry.{Entry}
+use Rattle.kept.specs.declared.LogError.{LogError}
+use Rattle.std.specs.Prelude.{Option, Some, None, Result, Ok, Err}
 
 pub same-placed : (p q : Placed) → order_entry (placed_as p) ≡ order_entry (placed_as q) → p ≡ q
 unfolding order_entry
@@ -48,20 +49,20 @@ some-octets (Placed.Ignored IgnoredIeReason.Malformed) e = let z : ◌≡◌ {A 
 some-octets (Placed.Ignored IgnoredIeReason.Repeated) e = let z : ◌≡◌ {A = ℕ} 0 1 = cc in absurd (omega arith)
 some-octets (Placed.Ignored IgnoredIeReason.OutOfSequence) e = let z : ◌≡◌ {A = ℕ} 0 1 = cc in absurd (omega arith)
 
-pub same-entry : (a b : Entry) → entry_as a ≡ entry_as b → a ≡ b
-same-entry (Entry.Is p) (Entry.Is q) e = ap (λ (x : Placed). Entry.Is x) (same-placed p q (values_of e))
-same-entry (Entry.Is p) Entry.PastLast e = absurd (some-octets p (values_of e))
-same-entry (Entry.Is p) Entry.TooLong e = let v = number_of e in cc
-same-entry (Entry.Is p) Entry.Malformed e = let v = number_of e in cc
-same-entry Entry.PastLast (Entry.Is q) e = absurd (some-octets q (values_of (sym e)))
-same-entry Entry.PastLast Entry.PastLast e = refl
-same-entry Entry.PastLast Entry.TooLong e = let v = number_of e in cc
-same-entry Entry.PastLast Entry.Malformed e = let v = number_of e in cc
-same-entry Entry.TooLong (Entry.Is q) e = let v = number_of e in cc
-same-entry Entry.TooLong Entry.PastLast e = let v = number_of e in cc
-same-entry Entry.TooLong Entry.TooLong e = refl
-same-entry Entry.TooLong Entry.Malformed e = let v = number_of e in cc
-same-entry Entry.Malformed (Entry.Is q) e = let v = number_of e in cc
-same-entry Entry.Malformed Entry.PastLast e = let v = number_of e in cc
-same-entry Entry.Malformed Entry.TooLong e = let v = number_of e in cc
-same-entry Entry.Malformed Entry.Malformed e = refl
+pub same-entry : (a b : Result (Option Placed) LogError) → entry_as a ≡ entry_as b → a ≡ b
+same-entry (Ok (Some p)) (Ok (Some q)) e = ap (λ (x : Placed). Ok (Some x)) (same-placed p q (values_of e))
+same-entry (Ok (Some p)) (Ok None) e = absurd (some-octets p (values_of e))
+same-entry (Ok (Some p)) (Err LogError.TooLong) e = let v = number_of e in cc
+same-entry (Ok (Some p)) (Err LogError.Malformed) e = let v = number_of e in cc
+same-entry (Ok None) (Ok (Some q)) e = absurd (some-octets q (values_of (sym e)))
+same-entry (Ok None) (Ok None) e = refl
+same-entry (Ok None) (Err LogError.TooLong) e = let v = number_of e in cc
+same-entry (Ok None) (Err LogError.Malformed) e = let v = number_of e in cc
+same-entry (Err LogError.TooLong) (Ok (Some q)) e = let v = number_of e in cc
+same-entry (Err LogError.TooLong) (Ok None) e = let v = number_of e in cc
+same-entry (Err LogError.TooLong) (Err LogError.TooLong) e = refl
+same-entry (Err LogError.TooLong) (Err LogError.Malformed) e = let v = number_of e in cc
+same-entry (Err LogError.Malformed) (Ok (Some q)) e = let v = number_of e in cc
+same-entry (Err LogError.Malformed) (Ok None) e = let v = number_of e in cc
+same-entry (Err LogError.Malformed) (Err LogError.TooLong) e = let v = number_of e in cc
+same-entry (Err LogError.Malformed) (Err LogError.Malformed) e = refl

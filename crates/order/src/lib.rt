@@ -5,14 +5,14 @@
 
 ghost use Rattle.std.specs.Prelude.{◌≡◌, ◌≤◌, ◌<◌, length, get_or, drop, [], ◌∷◌};
 ghost use Rattle.definitions.specs.Logs.{order_entry, order_list, order_push, order_get};
-ghost use Rattle.definitions.proofs.Orders.{order_front, aside_by};
+ghost use Rattle.definitions.proofs.Orders.{order_front};
 ghost use Rattle.kept.specs.Kept.{pushed_as, used_of, if_room};
 ghost use Rattle.order.specs.Order.{placed_as, front_as, Stepped, told_by, tell, start_walk, entry_as};
 
-use kept::{MOST_LOG, Pushed};
+use kept::{LogError, MOST_LOG, PushError, content_of};
 
 // Why an element that has a place was set aside.
-#[derive(Clone, Copy)]
+#[derive(Clone, Copy, PartialEq, Eq)]
 pub enum IgnoredIeReason {
     Malformed,
     Repeated,
@@ -20,53 +20,19 @@ pub enum IgnoredIeReason {
 }
 
 // How an element came: accepted under an IEI, unknown, or set aside.
-#[derive(Clone, Copy)]
+#[derive(Clone, Copy, PartialEq, Eq)]
 pub enum Placed {
     Known(u8),
     Unknown,
     Ignored(IgnoredIeReason),
 }
 
-// The entry at a number.
-#[derive(Clone, Copy)]
-pub enum Entry {
-    Is(Placed),
-    PastLast,
-    TooLong,
-    Malformed,
-}
-
-// The entry at the front of a log.
-#[derive(Clone, Copy)]
-pub enum Front {
-    Is(Placed),
-    Not,
-}
-
-// The wanted entry of a walk.
-#[derive(Clone, Copy)]
-pub enum Wanted {
-    Met(Placed),
-    NotYet,
-}
-
-#[derive(Clone, Copy)]
+// Where a walk over a log is: its position, the entries passed, and the wanted one, once it is met.
+#[derive(Clone, Copy, PartialEq, Eq)]
 pub struct OrderWalk {
     pub at: usize,
     pub count: usize,
-    pub wanted: Wanted,
-}
-
-#[derive(Clone, Copy)]
-pub enum OrderStep {
-    To(OrderWalk),
-    Malformed,
-}
-
-#[derive(Clone, Copy)]
-pub enum OrderWalked {
-    Log(Wanted),
-    Malformed,
+    pub wanted: Option<Placed>,
 }
 
 // How many octets an entry takes.
@@ -75,8 +41,7 @@ pub fn entry_len(entry: Placed) -> usize
 {
     match entry {
         Placed::Known(_) => 2,
-        Placed::Unknown => 1,
-        Placed::Ignored(_) => 1,
+        Placed::Unknown | Placed::Ignored(_) => 1,
     }
 }
 
@@ -95,15 +60,15 @@ fn reason_octet(reason: IgnoredIeReason) -> u8
 fn put_octet(out: &mut [u8], x: u8)
     ensures { out.new ≡ if_room (x ∷ []) out.old }
 {
-    if out.len() == 0 {
-        return;
+    if let [first, ..] = out {
+        *first = x;
     }
-    out[0] = x;
 }
 
 fn put_known(out: &mut [u8], iei: u8)
     ensures { out.new ≡ if_room (0 ∷ iei ∷ []) out.old }
 {
+    // By index: of a pattern that lends two octets at once the proof has no fact to cite.
     if out.len() < 2 {
         return;
     }
@@ -122,128 +87,75 @@ pub fn put_placed(out: &mut [u8], entry: Placed)
     }
 }
 
-// The entry of an octet from 1 to 4.
-fn aside_entry(x: u8) -> Placed
-    ensures { placed_as result ≡ aside_by x }
-{
-    match x {
-        0 => Placed::Unknown,
-        1 => Placed::Unknown,
-        2 => Placed::Ignored(IgnoredIeReason::Malformed),
-        3 => Placed::Ignored(IgnoredIeReason::Repeated),
-        _ => Placed::Ignored(IgnoredIeReason::OutOfSequence),
-    }
-}
-
 // The entry at the front of a log.
-pub fn front_at(s: &[u8]) -> Front
+pub fn front_at(s: &[u8]) -> Option<Placed>
     ensures { front_as result ≡ order_front s.now }
 {
-    if s.len() == 0 {
-        return Front::Not;
+    match *s {
+        [0, iei, ..] => Some(Placed::Known(iei)),
+        [1, ..] => Some(Placed::Unknown),
+        [2, ..] => Some(Placed::Ignored(IgnoredIeReason::Malformed)),
+        [3, ..] => Some(Placed::Ignored(IgnoredIeReason::Repeated)),
+        [4, ..] => Some(Placed::Ignored(IgnoredIeReason::OutOfSequence)),
+        _ => None,
     }
-    let x = s[0];
-    if x == 0 {
-        if s.len() == 1 {
-            return Front::Not;
-        }
-        return Front::Is(Placed::Known(s[1]));
-    }
-    if x > 4 {
-        return Front::Not;
-    }
-    Front::Is(aside_entry(x))
 }
 
 // Past the entry at a position; the one wanted is remembered.
-fn order_step(content: &[u8], w: OrderWalk, want: usize) -> OrderStep
+fn order_step(content: &[u8], w: OrderWalk, want: usize) -> Option<OrderWalk>
     requires { (w.at < length content.now) × (w.count ≤ w.at) }
     ensures { Stepped w want (order_front (drop w.at content.now)) result }
 {
-    let at = w.at;
-    let count = w.count;
-    match front_at(&content[at..]) {
-        Front::Is(entry) => {
-            let next = at + entry_len(entry);
-            if count == want {
-                return OrderStep::To(OrderWalk {
-                    at: next,
-                    count: count + 1,
-                    wanted: Wanted::Met(entry),
-                });
-            }
-            let wanted = w.wanted;
-            OrderStep::To(OrderWalk {
-                at: next,
-                count: count + 1,
-                wanted,
-            })
-        }
-        Front::Not => OrderStep::Malformed,
-    }
+    let entry = front_at(&content[w.at..])?;
+    let wanted = if w.count == want {
+        Some(entry)
+    } else {
+        w.wanted
+    };
+    Some(OrderWalk {
+        at: w.at + entry_len(entry),
+        count: w.count + 1,
+        wanted,
+    })
 }
 
-// The whole log once: the wanted entry, if there is one.
-fn walk_order(content: &[u8], want: usize) -> OrderWalked
+// The whole log once: the wanted entry, if there is one; None where it is malformed.
+fn walk_order(content: &[u8], want: usize) -> Option<OrderWalk>
     ensures { told_by result ≡ tell start_walk want (order_list content.now) }
 {
     let mut w = OrderWalk {
         at: 0,
         count: 0,
-        wanted: Wanted::NotYet,
+        wanted: None,
     };
     while w.at < content.len() {
-        match order_step(content, w, want) {
-            OrderStep::To(next) => {
-                w = next;
-            }
-            OrderStep::Malformed => {
-                return OrderWalked::Malformed;
-            }
-        }
+        w = order_step(content, w, want)?;
     }
-    let wanted = w.wanted;
-    OrderWalked::Log(wanted)
+    Some(w)
 }
 
-// The entry at a number from 0.
-pub fn order_get(log: &[u8], used: usize, k: usize) -> Entry
+// The entry at a number from 0; None past the last.
+pub fn order_get(log: &[u8], used: usize, k: usize) -> Result<Option<Placed>, LogError>
     ensures { entry_as result ≡ order_get (used_of log.now used) k }
 {
-    if used > log.len() {
-        return Entry::TooLong;
-    }
-    if used > MOST_LOG {
-        return Entry::TooLong;
-    }
-    match walk_order(&log[..used], k) {
-        OrderWalked::Log(wanted) => match wanted {
-            Wanted::Met(entry) => Entry::Is(entry),
-            Wanted::NotYet => Entry::PastLast,
-        },
-        OrderWalked::Malformed => Entry::Malformed,
-    }
+    let walk = walk_order(content_of(log, used)?, k).ok_or(LogError::Malformed)?;
+    Ok(walk.wanted)
 }
 
-// `IeOrder::push`: an entry behind those used.
-pub fn order_push(log: &mut [u8], used: usize, entry: Placed) -> Pushed
-    ensures { (pushed_as 1 3 result ≡ (order_push (used_of log.old used) (placed_as entry)).said) × (log.new ≡ (order_push (used_of log.old used) (placed_as entry)).log) }
+// `IeOrder::push`: an entry behind those used; how many octets are then used.
+pub fn order_push(log: &mut [u8], used: usize, entry: Placed) -> Result<usize, PushError>
+    ensures said { pushed_as 1 3 result ≡ (order_push (used_of log.old used) (placed_as entry)).said }
+    ensures log_after { log.new ≡ (order_push (used_of log.old used) (placed_as entry)).log }
 {
-    if used > log.len() {
-        return Pushed::TooLong;
-    }
+    let content = content_of(&*log, used)?;
     let after = used + entry_len(entry);
     if after > MOST_LOG {
-        return Pushed::TooLong;
+        return Err(PushError::TooLong);
     }
-    match walk_order(&log[..used], 0) {
-        OrderWalked::Log(_) => {
-            if after > log.len() {
-                return Pushed::NoRoom;
-            }
-            put_placed(&mut log[used..], entry);
-            Pushed::Used(after)
-        }
-        OrderWalked::Malformed => Pushed::Malformed,
+    walk_order(content, 0).ok_or(PushError::Malformed)?;
+    if after > log.len() {
+        return Err(PushError::NoRoom);
     }
+    put_placed(&mut log[used..], entry);
+    Ok(after)
 }

@@ -5,18 +5,15 @@ use native.Mathlib.Omega.{arith}
 use native.Mathlib.Numerals.{add-one}
 use mathlib.Core.Path.{◌≡◌, refl, ap, sym, ◌∙◌}
 use mathlib.Core.List.{List, [], ◌∷◌, ◌++◌}
-use mathlib.Core.Bool.{Bool, true, false}
-use borrow.Author.Tests.{ltb-true, ltb-false}
+use Rattle.std.specs.Prelude.{Result, Ok, Err}
 use lib.ListN.{length, get_or, set, take, length-append}
 use lib.Seq.{take-suc, length-take-le}
-use lib.Dec.{ltb}
-use Rattle.definitions.specs.Basic.{pick}
 use Rattle.definitions.specs.Mandatory.{RowsRead}
 use Rattle.mandatory.specs.Notes.{note, flat, notes_as, Tidy}
 use Rattle.mandatory.specs.Reads.{number_of, read_as, Reads}
 use Rattle.mandatory.specs.declared.notes.Note.{Note}
 use Rattle.mandatory.specs.declared.notes.Notes.{Notes}
-use Rattle.mandatory.specs.declared.decode.Mandated.{Mandated}
+use Rattle.mandatory.specs.declared.decode.MandatoryError.{MandatoryError}
 use Rattle.mandatory.specs.declared.decode.MandatoryRead.{MandatoryRead}
 use Rattle.mandatory.proofs.Noting.{flat_append}
 use Rattle.answers.specs.Says.{put_from, put}
@@ -53,19 +50,8 @@ none-put l s = refl
 
 -- ---- how many
 
-pub used-few : (n : ℕ) → used_notes n ≤ 32
-used-few n = go (ltb n 32) refl
-  where
-    go : (b : Bool) → ltb n 32 ≡ b → pick b n 32 ≤ 32
-    go true e = let h = ltb-true n 32 e in omega arith
-    go false e = omega arith
-
 used_all : (n : ℕ) → n ≤ 32 → used_notes n ≡ n
-used_all n h = go (ltb n 32) refl
-  where
-    go : (b : Bool) → ltb n 32 ≡ b → pick b n 32 ≡ n
-    go true e = refl
-    go false e = let g = ltb-false n 32 e in omega arith
+used_all n h = omega arith
 
 -- ---- the notes of the definition's answer
 
@@ -93,32 +79,32 @@ module _ (n : Notes) (t : Tidy n) where
       ∙ sym (flat-counted (take n.count n.notes) ∙ length-take-le n.count n.notes (omega (arith, t.size, t.within)))
 
   -- a refusal before the rows has no notes
-  abbrev Bare : Mandated → Type 0
+  abbrev Bare : Result ℕ MandatoryError → Type 0
   Bare m = 1 ≤ number_of m → number_of m ≤ 5 → notes_as n ≡ []
 
-  pub brief-by : (m : Mandated) → Bare m → brief_as m (used_notes n.count) ≡ briefly (read_as (record { answer = m; notes = n }))
+  pub brief-by : (m : Result ℕ MandatoryError) → Bare m → brief_as m (used_notes n.count) ≡ briefly (read_as (record { answer = m; notes = n }))
   unfolding briefly read_as
-  brief-by (Mandated.Done k) b = rw counted
-  brief-by Mandated.NoRoom b = rw (b (omega arith) (omega arith))
-  brief-by Mandated.TooLong b = rw (b (omega arith) (omega arith))
-  brief-by (Mandated.BadTable k) b = rw (b (omega arith) (omega arith))
-  brief-by Mandated.NoTable b = rw (b (omega arith) (omega arith))
-  brief-by (Mandated.Missing k) b = rw counted
-  brief-by (Mandated.Truncated k) b = rw counted
-  brief-by (Mandated.TooShort k) b = rw counted
-  brief-by (Mandated.Syntax k) b = rw counted
+  brief-by (Ok k) b = rw counted
+  brief-by (Err MandatoryError.NoRoom) b = rw (b (omega arith) (omega arith))
+  brief-by (Err MandatoryError.TooLong) b = rw (b (omega arith) (omega arith))
+  brief-by (Err (MandatoryError.BadTable k)) b = rw (b (omega arith) (omega arith))
+  brief-by (Err MandatoryError.NoTable) b = rw (b (omega arith) (omega arith))
+  brief-by (Err (MandatoryError.Missing k)) b = rw counted
+  brief-by (Err (MandatoryError.Truncated k)) b = rw counted
+  brief-by (Err (MandatoryError.TooShort k)) b = rw counted
+  brief-by (Err (MandatoryError.Syntax k)) b = rw counted
 
-  pub notes-by : (m : Mandated) → Bare m → notes_put n ≡ notes_in (read_as (record { answer = m; notes = n }))
+  pub notes-by : (m : Result ℕ MandatoryError) → Bare m → notes_put n ≡ notes_in (read_as (record { answer = m; notes = n }))
   unfolding notes_in read_as
-  notes-by (Mandated.Done k) b = put-are
-  notes-by Mandated.NoRoom b = put-are ∙ b (omega arith) (omega arith)
-  notes-by Mandated.TooLong b = put-are ∙ b (omega arith) (omega arith)
-  notes-by (Mandated.BadTable k) b = put-are ∙ b (omega arith) (omega arith)
-  notes-by Mandated.NoTable b = put-are ∙ b (omega arith) (omega arith)
-  notes-by (Mandated.Missing k) b = put-are
-  notes-by (Mandated.Truncated k) b = put-are
-  notes-by (Mandated.TooShort k) b = put-are
-  notes-by (Mandated.Syntax k) b = put-are
+  notes-by (Ok k) b = put-are
+  notes-by (Err MandatoryError.NoRoom) b = put-are ∙ b (omega arith) (omega arith)
+  notes-by (Err MandatoryError.TooLong) b = put-are ∙ b (omega arith) (omega arith)
+  notes-by (Err (MandatoryError.BadTable k)) b = put-are ∙ b (omega arith) (omega arith)
+  notes-by (Err MandatoryError.NoTable) b = put-are ∙ b (omega arith) (omega arith)
+  notes-by (Err (MandatoryError.Missing k)) b = put-are
+  notes-by (Err (MandatoryError.Truncated k)) b = put-are
+  notes-by (Err (MandatoryError.TooShort k)) b = put-are
+  notes-by (Err (MandatoryError.Syntax k)) b = put-are
 
 -- ---- what is put is that of the definition
 

@@ -1,11 +1,11 @@
 -- Reading mandatory rows through the C interface: the notes stand in 64 lent numbers, and the values tell how many there are.
-use Rattle.std.specs.Prelude.{ℕ, zero, suc, ◌≡◌, List, [], ◌∷◌, ◌++◌, get_or, ltb}
-use Rattle.definitions.specs.Basic.{pick, Answer, answer}
+use Rattle.std.specs.Prelude.{ℕ, min, zero, suc, ◌≡◌, List, [], ◌∷◌, ◌++◌, get_or, Result, Ok, Err}
+use Rattle.definitions.specs.Basic.{Answer, answer}
 use Rattle.definitions.specs.Mandatory.{RowsRead}
 use Rattle.mandatory.specs.Notes.{note}
 use Rattle.mandatory.specs.declared.notes.Note.{Note}
 use Rattle.mandatory.specs.declared.notes.Notes.{Notes}
-use Rattle.mandatory.specs.declared.decode.Mandated.{Mandated}
+use Rattle.mandatory.specs.declared.decode.MandatoryError.{MandatoryError}
 use Rattle.mandatory.specs.declared.decode.MandatoryRead.{MandatoryRead}
 use Rattle.answers.specs.Says.{put, Says}
 
@@ -53,7 +53,7 @@ pub record MandatorySays (d : RowsRead) (number : ℕ) (before after lent left r
 
 -- notes that are used; there are no more than 32
 abbrev pub used_notes : ℕ → ℕ
-used_notes count = pick (ltb count 32) count 32
+used_notes count = min count 32
 
 -- row and number of each of the first n notes. How long an array is no contract tells, so a note is named by its index
 unfoldable pub first_notes : ℕ → List Note → List ℕ
@@ -63,16 +63,16 @@ first_notes (suc n) l = first_notes n l ++ ((get_or l n (note 0 0)).row ∷ (get
 abbrev pub notes_put : Notes → List ℕ
 notes_put n = first_notes (used_notes n.count) n.notes
 
-abbrev pub brief_as : Mandated → ℕ → Answer
-brief_as (Mandated.Done n) notes = answer 0 (n ∷ notes ∷ [])
-brief_as Mandated.NoRoom notes = answer 2 (1 ∷ [])
-brief_as Mandated.TooLong notes = answer 3 []
-brief_as (Mandated.BadTable k) notes = answer 4 (k ∷ [])
-brief_as Mandated.NoTable notes = answer 5 []
-brief_as (Mandated.Missing k) notes = answer 6 (k ∷ notes ∷ [])
-brief_as (Mandated.Truncated k) notes = answer 7 (k ∷ notes ∷ [])
-brief_as (Mandated.TooShort k) notes = answer 8 (k ∷ notes ∷ [])
-brief_as (Mandated.Syntax k) notes = answer 9 (k ∷ notes ∷ [])
+abbrev pub brief_as : Result ℕ MandatoryError → ℕ → Answer
+brief_as (Ok n) notes = answer 0 (n ∷ notes ∷ [])
+brief_as (Err MandatoryError.NoRoom) notes = answer 2 (1 ∷ [])
+brief_as (Err MandatoryError.TooLong) notes = answer 3 []
+brief_as (Err (MandatoryError.BadTable k)) notes = answer 4 (k ∷ [])
+brief_as (Err MandatoryError.NoTable) notes = answer 5 []
+brief_as (Err (MandatoryError.Missing k)) notes = answer 6 (k ∷ notes ∷ [])
+brief_as (Err (MandatoryError.Truncated k)) notes = answer 7 (k ∷ notes ∷ [])
+brief_as (Err (MandatoryError.TooShort k)) notes = answer 8 (k ∷ notes ∷ [])
+brief_as (Err (MandatoryError.Syntax k)) notes = answer 9 (k ∷ notes ∷ [])
 
 -- whatever the answer, the notes that are used are put
 pub record MandatedSays (r : MandatoryRead) (number : ℕ) (before after lent left : List ℕ) : Type 0 where

@@ -13,15 +13,16 @@ ghost use Rattle.measured_writing.specs.Encodes.{which_as, encoded_as};
 ghost use Rattle.part_answers.specs.Mandated.{used_notes, notes_put, brief_as, MandatedSays};
 ghost use Rattle.answers.specs.Says.{put, Says};
 
-use answers::{four, none, one, two};
-use checking::PartCheck;
-use filling::{Decoded, Room};
-use findings::{Found, Log};
-use mandatory::decode::{Mandated, MandatoryRead};
+use answers::{cut_said, none, one, two};
+use checking::PartError;
+use filling::{DecodeError, Decoded, Room};
+use findings::FindError;
+use logs::MalformedLog;
+use mandatory::decode::{MandatoryError, MandatoryRead};
 use mandatory::notes::Notes;
-use mandatory_writing::encode::MandatoryWrote;
-use measured_writing::encode::{Encoded, Which};
-use why::{Fault, Why};
+use mandatory_writing::encode::MandatoryWriteError;
+use measured_writing::encode::{EncodeError, Encoded, Which};
+use why::{Fault, Why, WhyError};
 
 fn room_said(room: Room, values: &mut [u64; 5]) -> u32
     ensures { Says (answer 2 (room_as room ∷ [])) result values.old values.new }
@@ -37,39 +38,25 @@ pub fn decoded_said(decoded: Decoded, values: &mut [u64; 5]) -> u32
     ensures { Says (decoded_as decoded) result values.old values.new }
 {
     match decoded {
-        Decoded::Done(kept, order) => two(0, kept as u64, order as u64, values),
-        Decoded::CutShort(start, x, left, missing) => four(
-            1,
-            start as u64,
-            x as u64,
-            left as u64,
-            missing as u64,
-            values,
-        ),
-        Decoded::NoRoom(room) => room_said(room, values),
-        Decoded::TooLong => none(3, values),
-        Decoded::BadTable(row) => one(4, row as u64, values),
-        Decoded::NoTable => none(5, values),
+        Ok(used) => two(0, used.kept as u64, used.order as u64, values),
+        Err(DecodeError::CutShort(cut)) => cut_said(cut, values),
+        Err(DecodeError::NoRoom(room)) => room_said(room, values),
+        Err(DecodeError::TooLong) => none(3, values),
+        Err(DecodeError::BadTable(row)) => one(4, row as u64, values),
+        Err(DecodeError::NoTable) => none(5, values),
     }
 }
 
-pub fn part_checked_said(checked: PartCheck, values: &mut [u64; 5]) -> u32
+pub fn part_checked_said(checked: Result<(), PartError>, values: &mut [u64; 5]) -> u32
     ensures { Says (part_check_as checked) result values.old values.new }
 {
     match checked {
-        PartCheck::Accepted => none(0, values),
-        PartCheck::Offends(at) => one(29, at as u64, values),
-        PartCheck::CutShort(start, x, left, missing) => four(
-            1,
-            start as u64,
-            x as u64,
-            left as u64,
-            missing as u64,
-            values,
-        ),
-        PartCheck::TooLong => none(3, values),
-        PartCheck::BadTable(row) => one(4, row as u64, values),
-        PartCheck::NoTable => none(5, values),
+        Ok(()) => none(0, values),
+        Err(PartError::Offends(at)) => one(29, at as u64, values),
+        Err(PartError::CutShort(cut)) => cut_said(cut, values),
+        Err(PartError::TooLong) => none(3, values),
+        Err(PartError::BadTable(row)) => one(4, row as u64, values),
+        Err(PartError::NoTable) => none(5, values),
     }
 }
 
@@ -88,14 +75,14 @@ pub fn encoded_said(encoded: Encoded, values: &mut [u64; 5]) -> u32
     ensures { Says (encoded_as encoded) result values.old values.new }
 {
     match encoded {
-        Encoded::Done(n) => one(0, n as u64, values),
-        Encoded::NoRows => one(2, 1, values),
-        Encoded::TooLong => none(3, values),
-        Encoded::BadTable(row) => one(4, row as u64, values),
-        Encoded::NoTable => none(5, values),
-        Encoded::Unfit(place) => one(10, place as u64, values),
-        Encoded::Malformed(which) => which_said(which, values),
-        Encoded::NoOutput(need) => one(12, need, values),
+        Ok(n) => one(0, n as u64, values),
+        Err(EncodeError::NoRows) => one(2, 1, values),
+        Err(EncodeError::TooLong) => none(3, values),
+        Err(EncodeError::BadTable(row)) => one(4, row as u64, values),
+        Err(EncodeError::NoTable) => none(5, values),
+        Err(EncodeError::Unfit(place)) => one(10, place as u64, values),
+        Err(EncodeError::Malformed(which)) => which_said(which, values),
+        Err(EncodeError::NoOutput(need)) => one(12, need, values),
     }
 }
 
@@ -103,10 +90,7 @@ pub fn encoded_said(encoded: Encoded, values: &mut [u64; 5]) -> u32
 fn used_notes(count: usize) -> usize
     ensures { result ≡ used_notes count }
 {
-    if count < 32 {
-        return count;
-    }
-    32
+    count.min(32)
 }
 
 // Row and number of each note that is used, two numbers each; the others stay as they were. Returns how many are used.
@@ -114,75 +98,71 @@ fn put_notes(from: Notes, notes: &mut [u32; 64]) -> u64
     ensures { (result ≡ used_notes from.count) × (notes.new ≡ put (notes_put from) notes.old) }
 {
     let used = used_notes(from.count);
-    let mut i = 0;
-    while i < used {
+    for i in 0..used {
         let note = from.notes[i];
         notes[2 * i] = note.row;
         notes[2 * i + 1] = note.number;
-        i += 1;
     }
     used as u64
 }
 
 // What reading mandatory rows answers, with how many notes there are.
-fn brief_said(mandated: Mandated, count: u64, values: &mut [u64; 5]) -> u32
+fn brief_said(mandated: Result<usize, MandatoryError>, count: u64, values: &mut [u64; 5]) -> u32
     ensures { Says (brief_as mandated count) result values.old values.new }
 {
     match mandated {
-        Mandated::Done(n) => two(0, n as u64, count, values),
-        Mandated::NoRoom => one(2, 1, values),
-        Mandated::TooLong => none(3, values),
-        Mandated::BadTable(row) => one(4, row as u64, values),
-        Mandated::NoTable => none(5, values),
-        Mandated::Missing(row) => two(6, row as u64, count, values),
-        Mandated::Truncated(row) => two(7, row as u64, count, values),
-        Mandated::TooShort(row) => two(8, row as u64, count, values),
-        Mandated::Syntax(row) => two(9, row as u64, count, values),
+        Ok(n) => two(0, n as u64, count, values),
+        Err(MandatoryError::NoRoom) => one(2, 1, values),
+        Err(MandatoryError::TooLong) => none(3, values),
+        Err(MandatoryError::BadTable(row)) => one(4, row as u64, values),
+        Err(MandatoryError::NoTable) => none(5, values),
+        Err(MandatoryError::Missing(row)) => two(6, row as u64, count, values),
+        Err(MandatoryError::Truncated(row)) => two(7, row as u64, count, values),
+        Err(MandatoryError::TooShort(row)) => two(8, row as u64, count, values),
+        Err(MandatoryError::Syntax(row)) => two(9, row as u64, count, values),
     }
 }
 
 pub fn mandated_said(read: MandatoryRead, notes: &mut [u32; 64], values: &mut [u64; 5]) -> u32
     ensures { MandatedSays read result values.old values.new notes.old notes.new }
 {
-    let from = read.notes;
-    let count = put_notes(from, notes);
-    let mandated = read.answer;
-    brief_said(mandated, count, values)
+    let count = put_notes(read.notes, notes);
+    brief_said(read.answer, count, values)
 }
 
-pub fn wrote_said(wrote: MandatoryWrote, values: &mut [u64; 5]) -> u32
+pub fn wrote_said(wrote: Result<usize, MandatoryWriteError>, values: &mut [u64; 5]) -> u32
     ensures { Says (wrote_as wrote) result values.old values.new }
 {
     match wrote {
-        MandatoryWrote::Done(n) => one(0, n as u64, values),
-        MandatoryWrote::NoRoom => one(2, 1, values),
-        MandatoryWrote::TooLong => none(3, values),
-        MandatoryWrote::BadTable(row) => one(4, row as u64, values),
-        MandatoryWrote::NoTable => none(5, values),
-        MandatoryWrote::Unfit(row) => one(10, row as u64, values),
-        MandatoryWrote::Malformed => one(11, 3, values),
-        MandatoryWrote::OutputShort(need) => one(12, need as u64, values),
+        Ok(n) => one(0, n as u64, values),
+        Err(MandatoryWriteError::NoRoom) => one(2, 1, values),
+        Err(MandatoryWriteError::TooLong) => none(3, values),
+        Err(MandatoryWriteError::BadTable(row)) => one(4, row as u64, values),
+        Err(MandatoryWriteError::NoTable) => none(5, values),
+        Err(MandatoryWriteError::Unfit(row)) => one(10, row as u64, values),
+        Err(MandatoryWriteError::Malformed) => one(11, 3, values),
+        Err(MandatoryWriteError::OutputShort(need)) => one(12, need as u64, values),
     }
 }
 
-fn log_said(log: Log, values: &mut [u64; 5]) -> u32
+fn log_said(log: MalformedLog, values: &mut [u64; 5]) -> u32
     ensures { Says (answer 11 (log_as log ∷ [])) result values.old values.new }
 {
     match log {
-        Log::Order => one(11, 1, values),
-        Log::Kept => one(11, 2, values),
+        MalformedLog::Order => one(11, 1, values),
+        MalformedLog::Kept => one(11, 2, values),
     }
 }
 
-pub fn found_said(found: Found, values: &mut [u64; 5]) -> u32
+pub fn found_said(found: Result<usize, FindError>, values: &mut [u64; 5]) -> u32
     ensures { Says (found_as found) result values.old values.new }
 {
     match found {
-        Found::Findings(n) => one(0, n as u64, values),
-        Found::BadTable(row) => one(4, row as u64, values),
-        Found::TooLong => none(3, values),
-        Found::Malformed(log) => log_said(log, values),
-        Found::NoRoom => one(2, 4, values),
+        Ok(n) => one(0, n as u64, values),
+        Err(FindError::BadTable(row)) => one(4, row as u64, values),
+        Err(FindError::TooLong) => none(3, values),
+        Err(FindError::Malformed(log)) => log_said(log, values),
+        Err(FindError::NoRoom) => one(2, 4, values),
     }
 }
 
@@ -197,26 +177,19 @@ fn fault_number(fault: Fault) -> u64
     }
 }
 
-pub fn why_said(why: Why, values: &mut [u64; 5]) -> u32
+pub fn why_said(why: Result<Why, WhyError>, values: &mut [u64; 5]) -> u32
     ensures { Says (why_as why) result values.old values.new }
 {
     match why {
-        Why::Accepted => one(0, 0, values),
-        Why::Unknown => one(0, 1, values),
-        Why::Malformed(fault) => two(0, 2, fault_number(fault), values),
-        Why::Repeated(at) => two(0, 3, at as u64, values),
-        Why::OutOfSequence(at) => two(0, 4, at as u64, values),
-        Why::NoElement => none(27, values),
-        Why::CutShort(start, x, left, missing) => four(
-            1,
-            start as u64,
-            x as u64,
-            left as u64,
-            missing as u64,
-            values,
-        ),
-        Why::TooLong => none(3, values),
-        Why::BadTable(row) => one(4, row as u64, values),
-        Why::NoTable => none(5, values),
+        Ok(Why::Accepted) => one(0, 0, values),
+        Ok(Why::Unknown) => one(0, 1, values),
+        Ok(Why::Malformed(fault)) => two(0, 2, fault_number(fault), values),
+        Ok(Why::Repeated(at)) => two(0, 3, at as u64, values),
+        Ok(Why::OutOfSequence(at)) => two(0, 4, at as u64, values),
+        Err(WhyError::NoElement) => none(27, values),
+        Err(WhyError::CutShort(cut)) => cut_said(cut, values),
+        Err(WhyError::TooLong) => none(3, values),
+        Err(WhyError::BadTable(row)) => one(4, row as u64, values),
+        Err(WhyError::NoTable) => none(5, values),
     }
 }

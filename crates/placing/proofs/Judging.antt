@@ -1,5 +1,5 @@
 -- An element judged by its row, a test at a time, and put by what `put_ie` answers.
--- Where that is 0, the value does not fit or has no room, since no element is empty.
+-- Where that is None, the value does not fit or has no room.
 use Prim.Native.Nat.{ℕ, ◌+◌, ◌-◌, ◌≤◌, ◌<◌}
 use native.Mathlib.Omega.{arith}
 use mathlib.Core.Path.{◌≡◌, refl, ap, ◌∙◌}
@@ -11,7 +11,7 @@ use lib.ListN.{length, take, drop, length-take, length-drop}
 use lib.Dec.{leb}
 use borrow.Rule.Slice.PartMut.{put_mid, put_same}
 use Rattle.definitions.specs.Basic.{pick}
-use Rattle.definitions.specs.Rows.{Form, half, fixed, tlv, tlv-e, form_of}
+use Rattle.definitions.specs.Rows.{Form, form_of}
 use Rattle.definitions.specs.Values.{Octets, Value, value_at, present, good_value, unlike, octets_at}
 use Rattle.definitions.specs.Writing.{encoded}
 use Rattle.definitions.proofs.Lists.{lent-over}
@@ -20,17 +20,16 @@ use Rattle.rows.specs.declared.columns.Numbers.{Numbers}
 use Rattle.values.specs.Rows.{value_of, sources_of}
 use Rattle.values.specs.declared.row.ValueRow.{ValueRow}
 use Rattle.putting.specs.Puts.{writable, puts, PutIf}
-use Rattle.placing.specs.Pieces.{lent_of, judged, piece_by, PutBy}
-use Rattle.placing.specs.declared.Passed.{Passed}
+use Rattle.placing.specs.Pieces.{lent_of, judged, piece_by, held_to, PutBy}
+use Rattle.std.specs.Prelude.{Option as Answered, Some, None}
 use Rattle.placing.proofs.Pieces.{put-not, none-not, long-not, put_some, put-nothing}
 
--- no element is empty
-encoded-some : (f : Form) (iei : ℕ) (s : List ℕ) → 1 ≤ length (encoded f iei s)
-unfolding encoded
-encoded-some half iei s = omega arith
-encoded-some (fixed n) iei s = omega arith
-encoded-some tlv iei s = omega arith
-encoded-some tlv-e iei s = omega arith
+-- what is known of a piece by what was answered where it was put
+pub record Took (piece : Option (List ℕ)) (at : ℕ) (out : List ℕ) (r : Answered ℕ) (ys : List ℕ) : Type 0 where
+  pub not_put : r ≡ None → {after : List ℕ} → PutBy piece at out None after
+  pub same : r ≡ None → put_mid at (length out - at) out ys ≡ out
+  pub more : (n : ℕ) → r ≡ Some n → PutBy piece at out (Some (at + n)) (put_mid at (length out - at) out ys)
+  pub inside : (n : ℕ) → r ≡ Some n → at + n ≤ length out
 
 -- what was lent of a buffer
 abbrev lent : ℕ → List ℕ → List ℕ
@@ -60,63 +59,42 @@ module _ (f : Form) (o : Octets) (v : Value) (iei : ℕ) where
         unfolding judged
         judged-by e = rw (good, there, like, le-leb iei 255 small, ← s-is, e)
 
-        module _ (at : ℕ) (d : List ℕ) {took : ℕ} {ys : List ℕ} (inside : at ≤ length d) (p : PutIf (puts f v.source iei s (lent at d)) (encoded f iei s) (lent at d) took ys) where
+        module _ (at : ℕ) (d : List ℕ) {r : Answered ℕ} {ys : List ℕ} (inside : at ≤ length d) (p : PutIf (puts f v.source iei s (lent at d)) (encoded f iei s) (lent at d) r ys) where
           room : length (lent at d) ≡ length d - at
           room = simp (length-take, length-drop) (omega arith)
 
           -- what a put says, by its two tests
-          told : (b r : Bool) → writable f v.source iei s ≡ b → leb (length (encoded f iei s)) (length (lent at d)) ≡ r → PutIf (b && r) (encoded f iei s) (lent at d) took ys
+          told : (b t : Bool) → writable f v.source iei s ≡ b → leb (length (encoded f iei s)) (length (lent at d)) ≡ t → PutIf (b && t) (encoded f iei s) (lent at d) r ys
           unfolding puts
-          told b r x y = rw (x, y) at p
+          told b t x y = rw (x, y) at p
 
-          by_zero : (b r : Bool) → writable f v.source iei s ≡ b → leb (length (encoded f iei s)) (length (lent at d)) ≡ r → took ≡ 0 → {after : List ℕ} → PutBy (judged f o v iei) at d Passed.Not after
-          by_zero false r x y z = put-not (none-not (length d) at (judged-by x))
-          by_zero true false x y z = put-not (long-not (length d) at (judged-by x) (omega (arith, leb-false (length (encoded f iei s)) (length (lent at d)) y, room)))
-          by_zero true true x y z = absurd (omega (arith, (told true true x y).takes, encoded-some f iei s))
+          took_not : (r ≡ None) → held_to (length d) at (judged f o v iei) ≡ None → ys ≡ lent at d → Took (judged f o v iei) at d r ys
+          took_not n h e = record {
+            not_put = λ q. put-not h;
+            same = λ q. rw e (put_same at (length d - at) d);
+            more = λ m q. absurd cc;
+            inside = λ m q. absurd cc;
+          }
 
-          by-more : (b r : Bool) → writable f v.source iei s ≡ b → leb (length (encoded f iei s)) (length (lent at d)) ≡ r → (took ≡ 0 → ⊥)
-              → PutBy (judged f o v iei) at d (Passed.To (at + took)) (put_mid at (length d - at) d ys)
-          by-more false r x y z = absurd (z (told false r x y).takes)
-          by-more true false x y z = absurd (z (told true false x y).takes)
-          by-more true true x y z =
+          took_by : (b t : Bool) → writable f v.source iei s ≡ b → leb (length (encoded f iei s)) (length (lent at d)) ≡ t → Took (judged f o v iei) at d r ys
+          took_by false t x y = let q = told false t x y in took_not q.takes (none-not (length d) at (judged-by x)) q.octets
+          took_by true false x y =
+              let q = told true false x y in
+              took_not q.takes (long-not (length d) at (judged-by x) (omega (arith, leb-false (length (encoded f iei s)) (length (lent at d)) y, room))) q.octets
+          took_by true true x y =
               let t = told true true x y in
               let h : at + length (encoded f iei s) ≤ length d = omega (arith, leb-true (length (encoded f iei s)) (length (lent at d)) y, room) in
-              rw (judged-by x, t.takes) (put_some (encoded f iei s) h (rw t.octets (lent-over at (encoded f iei s) d (omega arith))))
+              let e = t.takes in
+              let same_as : (m : ℕ) → r ≡ Some m → m ≡ length (encoded f iei s) = λ m q. cc in
+              record {
+                not_put = λ q. absurd cc;
+                same = λ q. absurd cc;
+                more = λ m q. rw (judged-by x, same_as m q) (put_some (encoded f iei s) h (rw t.octets (lent-over at (encoded f iei s) d (omega arith))));
+                inside = λ m q. omega (arith, same_as m q, h);
+              }
 
-          by-inside : (b r : Bool) → writable f v.source iei s ≡ b → leb (length (encoded f iei s)) (length (lent at d)) ≡ r → at + took ≤ length d
-          by-inside false r x y = omega (arith, (told false r x y).takes)
-          by-inside true false x y = omega (arith, (told true false x y).takes)
-          by-inside true true x y = omega (arith, (told true true x y).takes, leb-true (length (encoded f iei s)) (length (lent at d)) y, room)
-
-          by-same : (b r : Bool) → writable f v.source iei s ≡ b → leb (length (encoded f iei s)) (length (lent at d)) ≡ r → took ≡ 0 → put_mid at (length d - at) d ys ≡ d
-          by-same false r x y z = rw (told false r x y).octets (put_same at (length d - at) d)
-          by-same true false x y z = rw (told true false x y).octets (put_same at (length d - at) d)
-          by-same true true x y z = absurd (omega (arith, (told true true x y).takes, encoded-some f iei s))
-
-          abbrev w : Bool
-          w = writable f v.source iei s
-
-          abbrev l : Bool
-          l = leb (length (encoded f iei s)) (length (lent at d))
-
-          put-zero : took ≡ 0 → {after : List ℕ} → PutBy (judged f o v iei) at d Passed.Not after
-          put-zero = by_zero w l refl refl
-
-          put-more : (took ≡ 0 → ⊥) → PutBy (judged f o v iei) at d (Passed.To (at + took)) (put_mid at (length d - at) d ys)
-          put-more = by-more w l refl refl
-
-          put-same-buffer : took ≡ 0 → put_mid at (length d - at) d ys ≡ d
-          put-same-buffer = by-same w l refl refl
-
-          took-inside : at + took ≤ length d
-          took-inside = by-inside w l refl refl
-
--- what is known of a piece by how many octets were taken for it
-pub record Took (piece : Option (List ℕ)) (at : ℕ) (out : List ℕ) (took : ℕ) (ys : List ℕ) : Type 0 where
-  pub zero : took ≡ 0 → {after : List ℕ} → PutBy piece at out Passed.Not after
-  pub same : took ≡ 0 → put_mid at (length out - at) out ys ≡ out
-  pub more : (took ≡ 0 → ⊥) → PutBy piece at out (Passed.To (at + took)) (put_mid at (length out - at) out ys)
-  pub inside : at + took ≤ length out
+          took : Took (judged f o v iei) at d r ys
+          took = took_by (writable f v.source iei s) (leb (length (encoded f iei s)) (length (lent at d))) refl refl
 
 -- ---- a place, by its row as the code has it
 
@@ -134,11 +112,11 @@ module _ (table rows received set : List ℕ) (k iei : ℕ) (row : ValueRow) (e 
   unfolding piece_by
   piece_is = rw e
 
-  pub piece-bad : good_value o (value_of row) ≡ false → {at : ℕ} {out after : List ℕ} → PutBy piece at out Passed.Not after
+  pub piece-bad : good_value o (value_of row) ≡ false → {at : ℕ} {out after : List ℕ} → PutBy piece at out None after
   piece-bad b {at = at} {out = out} = put-not (none-not (length out) at (piece_is ∙ judged-bad g o (value_of row) iei b))
 
   module _ (good : good_value o (value_of row) ≡ true) where
-    pub piece-absent : row.source ≡ 0 → {at : ℕ} {out : List ℕ} → at ≤ length out → PutBy piece at out (Passed.To at) out
+    pub piece-absent : row.source ≡ 0 → {at : ℕ} {out : List ℕ} → at ≤ length out → PutBy piece at out (Some at) out
     unfolding present
     piece-absent z h = rw (piece_is, judged-absent g o (value_of row) iei good (rw z)) (put-nothing h)
 
@@ -147,27 +125,20 @@ module _ (table rows received set : List ℕ) (k iei : ℕ) (row : ValueRow) (e 
       unfolding present
       is-there = le-leb 1 row.source (omega (arith, there))
 
-      pub piece-unlike : unlike (value_of row) iei ≡ true → {at : ℕ} {out after : List ℕ} → PutBy piece at out Passed.Not after
+      pub piece-unlike : unlike (value_of row) iei ≡ true → {at : ℕ} {out after : List ℕ} → PutBy piece at out None after
       piece-unlike u {at = at} {out = out} = put-not (none-not (length out) at (piece_is ∙ judged-unlike g o (value_of row) iei good is-there u))
 
       module _ (like : unlike (value_of row) iei ≡ false) where
-        pub piece-large : 255 < iei → {at : ℕ} {out after : List ℕ} → PutBy piece at out Passed.Not after
+        pub piece-large : 255 < iei → {at : ℕ} {out after : List ℕ} → PutBy piece at out None after
         piece-large h {at = at} {out = out} = put-not (none-not (length out) at (piece_is ∙ judged-large g o (value_of row) iei good is-there like h))
 
         module _ (small : iei ≤ 255) {f : Form} {n : Numbers} {s : List ℕ} (n-is : n ≡ numbers_at table k) (f-is : f ≡ form_of n.code n.size) (s-is : s ≡ octets_at o (value_of row))
-            (at : ℕ) (out : List ℕ) {took : ℕ} {ys : List ℕ} (inside : at ≤ length out) (p : PutIf (puts f row.source iei s (lent at out)) (encoded f iei s) (lent at out) took ys) where
+            (at : ℕ) (out : List ℕ) {r : Answered ℕ} {ys : List ℕ} (inside : at ≤ length out) (p : PutIf (puts f row.source iei s (lent at out)) (encoded f iei s) (lent at out) r ys) where
           form-is : f ≡ g
           form-is = f-is ∙ ap (λ (x : Numbers). form_of x.code x.size) n-is
 
-          by_form : PutIf (puts g row.source iei s (lent at out)) (encoded g iei s) (lent at out) took ys
+          by_form : PutIf (puts g row.source iei s (lent at out)) (encoded g iei s) (lent at out) r ys
           by_form = rw form-is at p
 
-          pub piece-took : Took piece at out took ys
-          piece-took =
-              rw piece_is
-              (record {
-                zero = λ z. put-zero g o (value_of row) iei good is-there like small s-is at out inside by_form z;
-                same = put-same-buffer g o (value_of row) iei good is-there like small s-is at out inside by_form;
-                more = put-more g o (value_of row) iei good is-there like small s-is at out inside by_form;
-                inside = took-inside g o (value_of row) iei good is-there like small s-is at out inside by_form;
-              })
+          pub piece-took : Took piece at out r ys
+          piece-took = rw piece_is (took g o (value_of row) iei good is-there like small s-is at out inside by_form)

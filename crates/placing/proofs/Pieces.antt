@@ -16,8 +16,8 @@ use Rattle.definitions.specs.Logs.{or_empty}
 use Rattle.definitions.proofs.Lists.{over-next, over_none, lent-over, length-over_at}
 use Rattle.putting.proofs.Putting.{whole}
 use Rattle.rows.specs.Numbers.{numbers_at}
+use Rattle.std.specs.Prelude.{Option as Answered, Some, None}
 use Rattle.placing.specs.Pieces.{Lent, joined, piece_by, ranged, held_to, PutBy, put_then, put_all, Leads}
-use Rattle.placing.specs.declared.Passed.{Passed}
 
 -- a piece that was put is there and had room
 pub record Held (piece : Option (List ℕ)) (at : ℕ) (before : List ℕ) (n : ℕ) (after : List ℕ) : Type 0 where
@@ -28,49 +28,49 @@ pub record Held (piece : Option (List ℕ)) (at : ℕ) (before : List ℕ) (n : 
   pub is : after ≡ over_at at octets before
 
 module _ {at n : ℕ} {before after : List ℕ} where
-  pub held : {piece : Option (List ℕ)} → PutBy piece at before (Passed.To n) after → Held piece at before n after
+  pub held : {piece : Option (List ℕ)} → PutBy piece at before (Some n) after → Held piece at before n after
   unfolding held_to or_empty
   held {piece = none} p = let e = p.answers in let z : ◌≡◌ {A = ℕ} 0 1 = cc in absurd (omega arith)
   held {piece = some s} p = by (leb (at + length s) (length before)) refl p.answers
     where
-      by : (b : Bool) → leb (at + length s) (length before) ≡ b → Passed.To n ≡ pick b (Passed.To (at + length s)) Passed.Not → Held (some s) at before n after
+      by : (b : Bool) → leb (at + length s) (length before) ≡ b → Some n ≡ pick b (Some (at + length s)) None → Held (some s) at before n after
       by true q e =
           let z : n ≡ at + length s = cc in
           record { octets = s; piece_is = refl; behind = z; room = omega (arith, leb-true (at + length s) (length before) q); is = p.octets n refl }
       by false q e = let z : ◌≡◌ {A = ℕ} 0 1 = cc in absurd (omega arith)
 
   -- a buffer keeps its length
-  pub held-long : {piece : Option (List ℕ)} → PutBy piece at before (Passed.To n) after → length after ≡ length before
+  pub held-long : {piece : Option (List ℕ)} → PutBy piece at before (Some n) after → length after ≡ length before
   held-long p = let h = held p in ap length h.is ∙ length-over_at at h.octets before (omega (arith, h.behind, h.room))
 
-  pub held-inside : {piece : Option (List ℕ)} → PutBy piece at before (Passed.To n) after → n ≤ length after
+  pub held-inside : {piece : Option (List ℕ)} → PutBy piece at before (Some n) after → n ≤ length after
   held-inside p = omega (arith, (held p).room, held-long p)
 
 -- a piece that there is, put with room for it
-pub put_some : (s : List ℕ) {at : ℕ} {before after : List ℕ} → at + length s ≤ length before → after ≡ over_at at s before → PutBy (some s) at before (Passed.To (at + length s)) after
+pub put_some : (s : List ℕ) {at : ℕ} {before after : List ℕ} → at + length s ≤ length before → after ≡ over_at at s before → PutBy (some s) at before (Some (at + length s)) after
 unfolding held_to or_empty
 put_some s {at = at} {before = before} h e = record { answers = rw (le-leb (at + length s) (length before)); octets = λ n q. e }
 
 -- nothing put
-pub put-nothing : {at : ℕ} {before : List ℕ} → at ≤ length before → PutBy (some []) at before (Passed.To at) before
+pub put-nothing : {at : ℕ} {before : List ℕ} → at ≤ length before → PutBy (some []) at before (Some at) before
 put-nothing {at = at} {before = before} h =
     let z : at + length {A = ℕ} [] ≡ at = omega arith in
     rw z at (put_some [] {at = at} {before = before} (omega arith) (sym (over_none at before)))
 
 -- a piece that is not put
-pub put-not : {piece : Option (List ℕ)} {at : ℕ} {before after : List ℕ} → held_to (length before) at piece ≡ Passed.Not → PutBy piece at before Passed.Not after
+pub put-not : {piece : Option (List ℕ)} {at : ℕ} {before after : List ℕ} → held_to (length before) at piece ≡ None → PutBy piece at before None after
 put-not e = record { answers = sym e; octets = λ n q. let z : ◌≡◌ {A = ℕ} 0 1 = cc in absurd (omega arith) }
 
-pub none-not : (room at : ℕ) {piece : Option (List ℕ)} → piece ≡ none → held_to room at piece ≡ Passed.Not
+pub none-not : (room at : ℕ) {piece : Option (List ℕ)} → piece ≡ none → held_to room at piece ≡ None
 unfolding held_to
 none-not room at e = rw e
 
-pub past-not : (room at : ℕ) (piece : Option (List ℕ)) → room < at → held_to room at piece ≡ Passed.Not
+pub past-not : (room at : ℕ) (piece : Option (List ℕ)) → room < at → held_to room at piece ≡ None
 unfolding held_to
 past-not room at none h = refl
 past-not room at (some s) h = rw (lt-leb (at + length s) room (omega arith))
 
-pub long-not : (room at : ℕ) {piece : Option (List ℕ)} {s : List ℕ} → piece ≡ some s → room < at + length s → held_to room at piece ≡ Passed.Not
+pub long-not : (room at : ℕ) {piece : Option (List ℕ)} {s : List ℕ} → piece ≡ some s → room < at + length s → held_to room at piece ≡ None
 unfolding held_to
 long-not room at {s = s} e h = rw (e, lt-leb (at + length s) room)
 
@@ -81,8 +81,8 @@ unfolding joined
 joined-none none = refl
 joined-none (some s) = refl
 
-module _ {a : Option (List ℕ)} {at mid : ℕ} {before middle : List ℕ} (p : PutBy a at before (Passed.To mid) middle) where
-  pub put_then_lem : (b : Option (List ℕ)) {r : Passed} {after : List ℕ} → PutBy b mid middle r after → PutBy (joined a b) at before r after
+module _ {a : Option (List ℕ)} {at mid : ℕ} {before middle : List ℕ} (p : PutBy a at before (Some mid) middle) where
+  pub put_then_lem : (b : Option (List ℕ)) {r : Answered ℕ} {after : List ℕ} → PutBy b mid middle r after → PutBy (joined a b) at before r after
   unfolding joined held_to or_empty
   put_then_lem none q = rw (held p).piece_is (record { answers = q.answers; octets = λ n e. let f = q.answers in let z : ◌≡◌ {A = ℕ} 0 1 = cc in absurd (omega arith) })
   put_then_lem (some t) {r = r} {after = after} q =
@@ -90,17 +90,17 @@ module _ {a : Option (List ℕ)} {at mid : ℕ} {before middle : List ℕ} (p : 
       let s : List ℕ = h.octets in
       let l : length middle ≡ length before = held-long p in
       let z : mid + length t ≡ at + length (s ++ t) = omega (arith, h.behind, length-append s t) in
-      let g : (n : ℕ) → r ≡ Passed.To n → after ≡ over_at at (s ++ t) before = λ n e. q.octets n e ∙ ap₂ (λ (i : ℕ) (d : List ℕ). over_at i t d) h.behind h.is ∙ over-next at s t before (omega (arith, h.behind, h.room)) in
+      let g : (n : ℕ) → r ≡ Some n → after ≡ over_at at (s ++ t) before = λ n e. q.octets n e ∙ ap₂ (λ (i : ℕ) (d : List ℕ). over_at i t d) h.behind h.is ∙ over-next at s t before (omega (arith, h.behind, h.room)) in
       rw h.piece_is (record { answers = rw (z, l) at q.answers; octets = g })
 
 -- where the first is not put, neither are both
-pub put-stop : (room at : ℕ) (a b : Option (List ℕ)) → held_to room at a ≡ Passed.Not → held_to room at (joined a b) ≡ Passed.Not
+pub put-stop : (room at : ℕ) (a b : Option (List ℕ)) → held_to room at a ≡ None → held_to room at (joined a b) ≡ None
 unfolding joined held_to
 put-stop room at none b e = refl
 put-stop room at (some s) none e = refl
 put-stop room at (some s) (some t) e = by (leb (at + length s) room) refl e
   where
-    by : (b : Bool) → leb (at + length s) room ≡ b → pick b (Passed.To (at + length s)) Passed.Not ≡ Passed.Not → pick (leb (at + length (s ++ t)) room) (Passed.To (at + length (s ++ t))) Passed.Not ≡ Passed.Not
+    by : (b : Bool) → leb (at + length s) room ≡ b → pick b (Some (at + length s)) None ≡ None → pick (leb (at + length (s ++ t)) room) (Some (at + length (s ++ t))) None ≡ None
     by true q f = let z : ◌≡◌ {A = ℕ} 0 1 = cc in absurd (omega arith)
     by false q f = rw (lt-leb (at + length (s ++ t)) room (omega (arith, leb-false (at + length s) room q, length-append s t)))
 
@@ -111,11 +111,11 @@ module _ {piece : Option (List ℕ)} {at : ℕ} {before : List ℕ} where
   leads-begun r after q = q
 
   module _ {a : Option (List ℕ)} (b : Option (List ℕ)) {at' : ℕ} {mid : List ℕ} (l : Leads piece at before (joined a b) at' mid) where
-    pub leads-on : {next : ℕ} {mid' : List ℕ} → PutBy a at' mid (Passed.To next) mid' → Leads piece at before b next mid'
+    pub leads-on : {next : ℕ} {mid' : List ℕ} → PutBy a at' mid (Some next) mid' → Leads piece at before b next mid'
     leads-on p r after q = l r after (put_then_lem p b q)
 
-    pub leads-not : {mid' : List ℕ} → PutBy a at' mid Passed.Not mid' → {after : List ℕ} → PutBy piece at before Passed.Not after
-    leads-not p {after = after} = l Passed.Not after (put-not (put-stop (length mid) at' a b (sym p.answers)))
+    pub leads-not : {mid' : List ℕ} → PutBy a at' mid None mid' → {after : List ℕ} → PutBy piece at before None after
+    leads-not p {after = after} = l None after (put-not (put-stop (length mid) at' a b (sym p.answers)))
 
   -- the same of an equal piece that is left
   pub leads-as : {a b : Option (List ℕ)} {at' : ℕ} {mid : List ℕ} → a ≡ b → Leads piece at before a at' mid → Leads piece at before b at' mid
@@ -135,18 +135,18 @@ module _ {piece : Option (List ℕ)} {at : ℕ} {before : List ℕ} where
   going-as e g = rw e at g
 
   module _ {a : Option (List ℕ)} (b : Option (List ℕ)) {at' : ℕ} {mid : List ℕ} (g : Going piece at before (joined a b) at' mid) where
-    pub going_on : {next : ℕ} {mid' : List ℕ} → PutBy a at' mid (Passed.To next) mid' → Going piece at before b next mid'
+    pub going_on : {next : ℕ} {mid' : List ℕ} → PutBy a at' mid (Some next) mid' → Going piece at before b next mid'
     going_on p = record { leads = leads-on b g.leads p; inside = held-inside p; long = held-long p ∙ g.long }
 
-    pub going-not : {mid' : List ℕ} → PutBy a at' mid Passed.Not mid' → {after : List ℕ} → PutBy piece at before Passed.Not after
+    pub going-not : {mid' : List ℕ} → PutBy a at' mid None mid' → {after : List ℕ} → PutBy piece at before None after
     going-not p = leads-not b g.leads p
 
-  pub going_end : {at' : ℕ} {mid : List ℕ} → Going piece at before (some []) at' mid → PutBy piece at before (Passed.To at') mid
-  going_end {at' = at'} {mid = mid} g = g.leads (Passed.To at') mid (put-nothing g.inside)
+  pub going_end : {at' : ℕ} {mid : List ℕ} → Going piece at before (some []) at' mid → PutBy piece at before (Some at') mid
+  going_end {at' = at'} {mid = mid} g = g.leads (Some at') mid (put-nothing g.inside)
 
 -- octets put into what was lent of a buffer
 pub put-octets : (s : List ℕ) (at : ℕ) (d : List ℕ) {ys : List ℕ} → at + length s ≤ length d → ys ≡ over (take (length (take (length d - at) (drop at d))) s) (take (length d - at) (drop at d))
-    → PutBy (some s) at d (Passed.To (at + length s)) (put_mid at (length d - at) d ys)
+    → PutBy (some s) at d (Some (at + length s)) (put_mid at (length d - at) d ys)
 put-octets s at d h e = put_some s h (rw (whole s (take (length d - at) (drop at d)) (simp (length-take, length-drop) (omega arith)) e) (lent-over at s d (omega arith)))
 
 -- ---- places one after the other
@@ -179,20 +179,20 @@ module _ (m : Lent) (k to at : ℕ) (d : List ℕ) where
   unfolding put_then
   has_room s h = rw (le-leb (at + length s) (length d) h)
 
-  pub all-on : k < to → {next : ℕ} {d' : List ℕ} → PutBy here at d (Passed.To next) d' → put_all m k (to - k) at d ≡ rest next d'
+  pub all-on : k < to → {next : ℕ} {d' : List ℕ} → PutBy here at d (Some next) d' → put_all m k (to - k) at d ≡ rest next d'
   all-on h p =
       let q = held p in
       all-next h ∙ ap (λ (o : Option (List ℕ)). put_then o at d rest) q.piece_is ∙ has_room q.octets (omega (arith, q.behind, q.room)) ∙ ap₂ rest (sym q.behind) (sym q.is)
 
-  pub all-stop : k < to → {d' : List ℕ} → PutBy here at d Passed.Not d' → put_all m k (to - k) at d ≡ d
+  pub all-stop : k < to → {d' : List ℕ} → PutBy here at d None d' → put_all m k (to - k) at d ≡ d
   unfolding put_then held_to
   all-stop h p = all-next h ∙ by here p.answers
     where
-      by : (o : Option (List ℕ)) → Passed.Not ≡ held_to (length d) at o → put_then o at d rest ≡ d
+      by : (o : Option (List ℕ)) → None ≡ held_to (length d) at o → put_then o at d rest ≡ d
       by none e = refl
       by (some s) e = room (leb (at + length s) (length d)) e
         where
-          room : (b : Bool) → Passed.Not ≡ pick b (Passed.To (at + length s)) Passed.Not → pick b (rest (at + length s) (over_at at s d)) d ≡ d
+          room : (b : Bool) → None ≡ pick b (Some (at + length s)) None → pick b (rest (at + length s) (over_at at s d)) d ≡ d
           room true f = let z : ◌≡◌ {A = ℕ} 0 1 = cc in absurd (omega arith)
           room false f = refl
 

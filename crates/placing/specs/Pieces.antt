@@ -1,6 +1,6 @@
 -- The elements of places put into a buffer: what each is written as where its row is well formed, agrees with its IEI and fits; else none.
 -- By the numbers of a table as they are lent: of a table that passes its check they are those of its rows.
-use Rattle.std.specs.Prelude.{ℕ, zero, suc, ◌+◌, ◌≤◌, ◌<◌, min, ◌≡◌, List, [], ◌++◌, ◌&&◌, length, take, leb}
+use Rattle.std.specs.Prelude.{ℕ, zero, suc, ◌+◌, ◌≤◌, ◌<◌, min, ◌≡◌, List, [], ◌++◌, ◌&&◌, length, take, leb, Option as Answered, Some, None}
 use Rattle.std.proofs.Math.Option.{Option, none, some}
 use Rattle.definitions.specs.Basic.{pick, over, over_at}
 use Rattle.definitions.specs.Rows.{Form, form_of}
@@ -10,7 +10,6 @@ use Rattle.definitions.specs.Writing.{encoded}
 use Rattle.rows.specs.Numbers.{numbers_at}
 use Rattle.values.specs.Rows.{sources_of}
 use Rattle.putting.specs.Puts.{writable}
-use Rattle.placing.specs.declared.Passed.{Passed}
 
 -- what is lent of the places: the numbers of a table, place rows, and the octets of their values
 pub record Lent : Type 0 where
@@ -50,14 +49,14 @@ ranged m k (suc n) = joined (piece_by m k (numbers_at m.table k).first) (ranged 
 -- ---- what is put into a buffer
 
 -- the position behind a piece that is put from a position on, where there is one and the room is enough
-unfoldable pub held_to : ℕ → ℕ → Option (List ℕ) → Passed
-held_to room at none = Passed.Not
-held_to room at (some s) = pick (leb (at + length s) room) (Passed.To (at + length s)) Passed.Not
+unfoldable pub held_to : ℕ → ℕ → Option (List ℕ) → Answered ℕ
+held_to room at none = None
+held_to room at (some s) = pick (leb (at + length s) room) (Some (at + length s)) None
 
 -- a piece put from a position on, all of it, or not; of a buffer into which it was not put nothing is said here
-pub record PutBy (piece : Option (List ℕ)) (at : ℕ) (before : List ℕ) (r : Passed) (after : List ℕ) : Type 0 where
+pub record PutBy (piece : Option (List ℕ)) (at : ℕ) (before : List ℕ) (r : Answered ℕ) (after : List ℕ) : Type 0 where
   pub answers : r ≡ held_to (length before) at piece
-  pub octets : (n : ℕ) → r ≡ Passed.To n → after ≡ over_at at (or_empty piece) before
+  pub octets : (n : ℕ) → r ≡ Some n → after ≡ over_at at (or_empty piece) before
 
 -- what a buffer then has: the n places from k on put from a position on, up to the first that is none or has no room
 unfoldable pub put_then : Option (List ℕ) → ℕ → List ℕ → (ℕ → List ℕ → List ℕ) → List ℕ
@@ -70,26 +69,26 @@ put_all m k (suc n) at d = put_then (piece_by m k (numbers_at m.table k).first) 
 
 -- what is left of a piece: whatever becomes of it from there, becomes of the whole
 abbrev pub Leads : Option (List ℕ) → ℕ → List ℕ → Option (List ℕ) → ℕ → List ℕ → Type 0
-Leads piece at before piece' at' mid = (r : Passed) (after : List ℕ) → PutBy piece' at' mid r after → PutBy piece at before r after
+Leads piece at before piece' at' mid = (r : Answered ℕ) (after : List ℕ) → PutBy piece' at' mid r after → PutBy piece at before r after
 
 -- ---- the output
 
 -- the first octets of what was found, copied; or the output as it was
-pub record Copied (p : Passed) (n : ℕ) (found before after : List ℕ) : Type 0 where
-  pub found_at : p ≡ Passed.To n
+pub record Copied (p : Answered ℕ) (n : ℕ) (found before after : List ℕ) : Type 0 where
+  pub found_at : p ≡ Some n
   pub there : n ≤ length found
   pub room : n ≤ length before
   pub is : after ≡ over (take n found) before
 
-abbrev pub CopiedBy : Passed → List ℕ → List ℕ → Passed → List ℕ → Type 0
-CopiedBy p found before (Passed.To n) after = Copied p n found before after
-CopiedBy p found before Passed.Not after = (after ≡ before) × ((n : ℕ) → p ≡ Passed.To n → min (length found) (length before) < n)
+abbrev pub CopiedBy : Answered ℕ → List ℕ → List ℕ → Answered ℕ → List ℕ → Type 0
+CopiedBy p found before (Some n) after = Copied p n found before after
+CopiedBy p found before None after = (after ≡ before) × ((n : ℕ) → p ≡ Some n → min (length found) (length before) < n)
 
 -- a piece in the front of the output, where an array of so many octets holds it and the output does; else the output as it was
-pub record WroteBy (room : ℕ) (piece : Option (List ℕ)) (before : List ℕ) (r : Passed) (after : List ℕ) : Type 0 where
+pub record WroteBy (room : ℕ) (piece : Option (List ℕ)) (before : List ℕ) (r : Answered ℕ) (after : List ℕ) : Type 0 where
   pub answers : r ≡ held_to (min room (length before)) 0 piece
-  pub done : (n : ℕ) → r ≡ Passed.To n → after ≡ over (or_empty piece) before
-  pub not_done : r ≡ Passed.Not → after ≡ before
+  pub done : (n : ℕ) → r ≡ Some n → after ≡ over (or_empty piece) before
+  pub not_done : r ≡ None → after ≡ before
 
 -- the array, by the places of the table and the octets of the kept log
 unfoldable pub capacity : ℕ → ℕ → ℕ

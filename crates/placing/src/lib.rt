@@ -2,23 +2,15 @@
 // Where anything is amiss nothing goes to the output, and the caller measures the message first.
 #![tactic(auto)]
 
-ghost use Rattle.std.specs.Prelude.{◌≡◌, ◌&&◌, ◌-◌, ◌≤◌, length, leb};
+ghost use Rattle.std.specs.Prelude.{◌≡◌, ◌&&◌, ◌-◌, ◌≤◌, length, leb, None};
 ghost use Rattle.rows.specs.Numbers.{numbers_at};
 ghost use Rattle.placing.specs.Pieces.{lent_of, piece_by, ranged, PutBy, put_all, CopiedBy};
-ghost use Rattle.placing.specs.declared.Passed.{Passed};
 
 use agreement::is_unlike;
 use copying::put_slice;
 use putting::put_ie;
 use rows::columns::{form_of, numbers_at};
 use values::row::{is_good, row_at, value_octets};
-
-// The position behind what was written; or not written.
-#[derive(Clone, Copy)]
-pub enum Passed {
-    To(usize),
-    Not,
-}
 
 // The element of a place under its first IEI, if the place is present.
 fn put_first<'a>(
@@ -29,37 +21,26 @@ fn put_first<'a>(
     place: usize,
     out: &mut [u8],
     at: usize,
-) -> Passed
+) -> Option<usize>
     requires { at ≤ length out.old }
     ensures put_by { PutBy (piece_by (lent_of table.now rows.now received.now set.now) place (numbers_at table.now place).first) at out.old result out.new }
-    ensures out_unchanged { result ≡ Passed.Not → out.new ≡ out.old }
+    ensures out_unchanged { result ≡ None → out.new ≡ out.old }
 {
     let row = row_at(rows, place);
     if !is_good(row, received, set) {
-        return Passed::Not;
+        return None;
     }
     if row.source == 0 {
-        return Passed::To(at);
+        return Some(at);
     }
     let n = numbers_at(table, place);
-    if is_unlike(row, n.first) {
-        return Passed::Not;
-    }
-    if n.first > 255 {
-        return Passed::Not;
+    if is_unlike(row, n.first) || n.first > 255 {
+        return None;
     }
     let value = value_octets(received, set, row);
-    let took = put_ie(
-        &mut out[at..],
-        form_of(n.code, n.size),
-        row.source,
-        n.first as u8,
-        value,
-    );
-    if took == 0 {
-        return Passed::Not;
-    }
-    Passed::To(at + took)
+    let form = form_of(n.code, n.size);
+    let took = put_ie(&mut out[at..], form, row.source, n.first as u8, value)?;
+    Some(at + took)
 }
 
 // The places from one on, up to another, each under its first IEI, behind a position, as far as each row is right and has room.
@@ -72,27 +53,18 @@ pub fn put_between<'a>(
     to: usize,
     out: &mut [u8],
     start: usize,
-) -> Passed
+) -> Option<usize>
     ensures put_by { PutBy (ranged (lent_of table.now rows.now received.now set.now) from (to - from)) start out.old result out.new }
     ensures out_after { out.new ≡ put_all (lent_of table.now rows.now received.now set.now) from (to - from) start out.old }
 {
     if start > out.len() {
-        return Passed::Not;
+        return None;
     }
     let mut at = start;
-    let mut k = from;
-    while k < to {
-        match put_first(&*table, &*rows, &*received, &*set, k, out, at) {
-            Passed::To(next) => {
-                at = next;
-                k += 1;
-            }
-            Passed::Not => {
-                return Passed::Not;
-            }
-        }
+    for k in from..to {
+        at = put_first(table, rows, received, set, k, out, at)?;
     }
-    Passed::To(at)
+    Some(at)
 }
 
 // The element of a place under an IEI of the order log, if the place is present, behind a position. It does by itself what `put_first` does under
@@ -106,62 +78,44 @@ pub fn put_logged<'a>(
     iei: u8,
     out: &mut [u8],
     at: usize,
-) -> Passed
+) -> Option<usize>
     ensures { PutBy (piece_by (lent_of table.now rows.now received.now set.now) place iei) at out.old result out.new }
 {
     if at > out.len() {
-        return Passed::Not;
+        return None;
     }
     let row = row_at(rows, place);
     if !is_good(row, received, set) {
-        return Passed::Not;
+        return None;
     }
     if row.source == 0 {
-        return Passed::To(at);
+        return Some(at);
     }
     let n = numbers_at(table, place);
-    if is_unlike(row, iei as u32) {
-        return Passed::Not;
+    if is_unlike(row, u32::from(iei)) {
+        return None;
     }
     let value = value_octets(received, set, row);
-    let took = put_ie(
-        &mut out[at..],
-        form_of(n.code, n.size),
-        row.source,
-        iei,
-        value,
-    );
-    if took == 0 {
-        return Passed::Not;
-    }
-    Passed::To(at + took)
+    let form = form_of(n.code, n.size);
+    let took = put_ie(&mut out[at..], form, row.source, iei, value)?;
+    Some(at + took)
 }
 
-// What was found, into the output, if it has room.
-pub fn copy_out(output: &mut [u8], found: &[u8], passed: Passed) -> Passed
+// The first so many octets that were found, into the output, if it has room; how many.
+pub fn copy_out(output: &mut [u8], found: &[u8], passed: Option<usize>) -> Option<usize>
     ensures { CopiedBy passed found.now output.old result output.new }
 {
-    match passed {
-        Passed::To(n) => {
-            if found.len() < n {
-                return Passed::Not;
-            }
-            if output.len() < n {
-                return Passed::Not;
-            }
-            put_slice(output, &found[..n]);
-            Passed::To(n)
-        }
-        Passed::Not => Passed::Not,
+    let n = passed?;
+    if found.len() < n || output.len() < n {
+        return None;
     }
+    put_slice(output, &found[..n]);
+    Some(n)
 }
 
 // Whether the shorter array is taken, by the places of the table and the octets of the kept log.
 pub fn is_few(places: usize, kept: usize) -> bool
     ensures { result ≡ (leb places 16 && leb kept 64) }
 {
-    if places > 16 {
-        return false;
-    }
-    kept <= 64
+    places <= 16 && kept <= 64
 }

@@ -5,8 +5,9 @@ use native.Mathlib.Omega.{arith}
 use mathlib.Core.Path.{◌≡◌, refl, ap, sym, ◌∙◌}
 use mathlib.Core.List.{List, [], ◌∷◌, ◌++◌, append_assoc}
 use mathlib.Core.Bool.{Bool, true, false, ◌&&◌, ◌||◌, true≢false, false≢true}
-use mathlib.Core.Option.{Option, some, get_or}
+use mathlib.Core.Option.{Option, some}
 use borrow.Author.Tests.{eqb-true, eqb-false, eq-eqb, ne_eqb}
+use Rattle.std.specs.Prelude.{Some}
 use lib.ListN.{length, take, drop, replicate, length-replicate, length-append}
 use lib.Seq.{take-append-add, drop-append-add, drop_at}
 use lib.Dec.{eqb}
@@ -19,7 +20,7 @@ use Rattle.definitions.specs.Reading.{received, place_row, place_rows_from, plac
 use Rattle.definitions.proofs.Ieis.{own_row, own-row}
 use Rattle.definitions.proofs.BitLaws.{bit-including, no-bit}
 use Rattle.definitions.proofs.Steps.{Stands, strange, placed, Reads, end, more, reads}
-use Rattle.elements.specs.Steps.{element_of, placed_for}
+use Rattle.elements.specs.Steps.{element_of, place_of, placed_for}
 use Rattle.plain_reading.specs.Entered.{row_entered, row_by, entered_all}
 use Rattle.plain_reading.proofs.Accepted.{Accepted, accepted-one}
 
@@ -184,12 +185,12 @@ module _ (t : List Row) (start : ℕ) (option : Bool) where
       → (c : ℕ) → e.place ≡ some c → c < length t → row_entered t (element_of e) (rows_from g 0 (length t) ++ r) ≡ rows_from (updated g c (received t (iei_at e) c e)) 0 (length t) ++ r
   unfolding row_entered element_of received is_accepted
   enter-accepted {e = e} a v g th r c has inside =
-      ap (λ (o : Option ℕ). row_by t (get_or o 255) e.at (length e.octets) (rows_from g 0 (length t) ++ r) (placed_for (iei_at e) e.verdict)) has
+      ap (λ (o : Option ℕ). row_by t (place_of o) e.at (length e.octets) (rows_from g 0 (length t) ++ r) (placed_for (iei_at e) e.verdict)) has
       ∙ by e.verdict v
       ∙ row_put g th _ r refl (length t) 0 c c inside (omega arith)
     where
       by : (w : Verdict) → is_accepted w ≡ true
-          → row_by t c e.at (length e.octets) (rows_from g 0 (length t) ++ r) (placed_for (iei_at e) w)
+          → row_by t (Some c) e.at (length e.octets) (rows_from g 0 (length t) ++ r) (placed_for (iei_at e) w)
           ≡ over_at (4 * c) (1 ∷ (e.at + header (form (row_at t c))) ∷ (length e.octets - header (form (row_at t c))) ∷ iei_at e ∷ []) (rows_from g 0 (length t) ++ r)
       by accepted q = refl
       by unknown q = absurd (false≢true q)
@@ -201,7 +202,7 @@ module _ (t : List Row) (start : ℕ) (option : Bool) where
   unfolding row_entered element_of is_accepted
   enter-aside e a rows = by e.verdict a
     where
-      by : (w : Verdict) → is_accepted w ≡ false → row_by t (get_or e.place 255) e.at (length e.octets) rows (placed_for (iei_at e) w) ≡ rows
+      by : (w : Verdict) → is_accepted w ≡ false → row_by t (place_of e.place) e.at (length e.octets) rows (placed_for (iei_at e) w) ≡ rows
       by accepted q = absurd (true≢false q)
       by unknown q = refl
       by malformed q = refl
@@ -258,12 +259,6 @@ module _ (t : List Row) (start : ℕ) (option : Bool) where
               each false q =
                   let i : j ≡ c.place → ⊥ = eqb-false j c.place q in
                   rw (updated-off g c.place (received t (iei_at e) c.place e) j i, row_other t e es j c.has i)
-
-pub rows-length : (t : List Row) (es : List Element) → length (place_rows t es) ≡ 4 * length t
-unfolding place_rows
-rows-length t es =
-    let ps : List Placed = or_empty (order_list (order_of t es)) in
-    ap length (place-rows t ps es 0 (length t)) ∙ rows_long (place_row t ps es) (row-four t ps es) 0 (length t)
 
 -- the whole part, from rows of zeros
 pub all-entered : (t : List Row) (start : ℕ) (option : Bool) (part : List ℕ) (es : List Element) → parted t start option part ≡ elements es

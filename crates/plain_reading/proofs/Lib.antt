@@ -3,6 +3,3 @@ pub mod Accepted
 pub mod Entered
 pub mod Copied
 pub mod Lining
-pub mod Says
-pub mod BySaid
-pub mod Answered

@@ -6,11 +6,11 @@ use native.Mathlib.Numerals.{add-one}
 use mathlib.Core.Path.{◌≡◌, refl, ap, sym, ◌∙◌}
 use mathlib.Core.List.{List, [], ◌∷◌}
 use mathlib.Core.Bool.{Bool, true, false, ◌&&◌, true≢false}
-use mathlib.Core.Option
 use mathlib.Core.Option.{Option, none, some}
 use borrow.Author.Tests.{ne_eqb, eq-eqb, le-ltb, le-leb, lt-leb}
 use lib.ListN.{length, get_or, drop}
 use lib.Dec.{eqb, leb, ltb}
+use Rattle.std.specs.Prelude.{Option as Answered, Some, None, Result, Ok, Err}
 use Rattle.definitions.specs.Basic.{pick, bit, over_at}
 use Rattle.definitions.specs.Rows.{Row, row_at, first_iei}
 use Rattle.definitions.specs.Length.{unknown_length, missing, required}
@@ -18,10 +18,11 @@ use Rattle.definitions.specs.Elements.{Verdict, accepted, unknown, malformed, re
 use Rattle.definitions.specs.Logs.{plain_at, plain_from}
 use Rattle.definitions.proofs.BitLaws.{no-bit}
 use Rattle.definitions.proofs.Steps.{Stands, strange, placed}
+use Rattle.length.specs.declared.CutShort.{CutShort}
 use Rattle.order.specs.declared.Placed.{Placed}
 use Rattle.seen.specs.declared.Seen.{Seen}
 use Rattle.seen.specs.Seen.{set_of, seen_of, including_place}
-use Rattle.elements.specs.Steps.{placed_for, element_of, step_of, met_of, fit_of, came_known, came_strange, state_at, found_at}
+use Rattle.elements.specs.Steps.{place_of, placed_for, element_of, step_of, met_of, fit_of, came_known, came_strange, found_at}
 use Rattle.elements.specs.declared.element.State.{State}
 use Rattle.elements.specs.declared.element.Element.{Element}
 use Rattle.elements.specs.declared.element.Came.{Came}
@@ -46,10 +47,10 @@ has-place (placed k p) = tt
 known-accepted : (v : Verdict) (i : ℕ) {j : ℕ} → Placed.Known j ≡ placed_for i v → is_accepted v ≡ true
 unfolding is_accepted
 known-accepted accepted i e = refl
-known-accepted unknown i e = let z : ◌≡◌ {A = ℕ} 0 1 = cc in absurd (omega arith)
-known-accepted malformed i e = let z : ◌≡◌ {A = ℕ} 0 1 = cc in absurd (omega arith)
-known-accepted repeated i e = let z : ◌≡◌ {A = ℕ} 0 1 = cc in absurd (omega arith)
-known-accepted out_of_sequence i e = let z : ◌≡◌ {A = ℕ} 0 1 = cc in absurd (omega arith)
+known-accepted unknown i e = cc
+known-accepted malformed i e = cc
+known-accepted repeated i e = cc
+known-accepted out_of_sequence i e = cc
 
 pick-both : {X : Type 0} (a b : Bool) (x : Option X) → pick (a && b) x none ≡ pick a (pick b x none) none
 pick-both true b x = refl
@@ -60,11 +61,12 @@ pick-none true = refl
 pick-none false = refl
 
 module _ (t : List Row) (least : ℕ) (rows : List ℕ) where
-  -- by how the element in front came, and what is behind it
-  abbrev ahead : Element → Parted → Placed → Option (List ℕ)
-  ahead e p (Placed.Known iei) = pick (leb least e.place && eqb iei (first_iei t e.place)) (plain_rows t (suc e.place) p (row_entered t e rows)) none
-  ahead e p Placed.Unknown = none
-  ahead e p (Placed.Ignored r) = none
+  -- by the place of the element in front, how it came, and what is behind it
+  abbrev ahead : Element → Parted → Answered ℕ → Placed → Option (List ℕ)
+  ahead e p k Placed.Unknown = none
+  ahead e p k (Placed.Ignored r) = none
+  ahead e p None (Placed.Known iei) = none
+  ahead e p (Some k) (Placed.Known iei) = pick (leb least k && eqb iei (first_iei t k)) (plain_rows t (suc k) p (row_entered t e rows)) none
 
   module _ (at : ℕ) (octets : List ℕ) where
     abbrev made : Option ℕ → Verdict → DefElement
@@ -76,7 +78,7 @@ module _ (t : List Row) (least : ℕ) (rows : List ℕ) where
     aside (some k) v (elements es) h = rw h
     aside o v (cut_short a x n m) h = refl
 
-    front : (o : Option ℕ) (v : Verdict) (p : Parted) → HasPlace o v → plain_rows t least (before (made o v) p) rows ≡ ahead (element_of (made o v)) p (placed_for (iei_at (made o v)) v)
+    front : (o : Option ℕ) (v : Verdict) (p : Parted) → HasPlace o v → plain_rows t least (before (made o v) p) rows ≡ ahead (element_of (made o v)) p (place_of o) (placed_for (iei_at (made o v)) v)
     unfolding before plain_from plain_at entered_all element_of is_accepted
     front none accepted p h = let z : ◌≡◌ {A = Bool} true false = h in absurd (true≢false z)
     front (some k) accepted (elements es) h = pick-both (leb least k && eqb (iei_at (made (some k) accepted)) (first_iei t k)) (plain_from t (suc k) es) _
@@ -134,7 +136,7 @@ module _ (t : List Row) (start : ℕ) (option : Bool) (part rows₀ : List ℕ) 
   abbrev whole : Option (List ℕ)
   whole = plain_rows t 0 (parted t start option part) rows₀
 
-  module _ {at least : ℕ} {rows : List ℕ} (l : Lining t start option part rows₀ at least rows) (iei k : ℕ) where
+  module _ {at least : ℕ} {rows : List ℕ} (l : Lining t start option part rows₀ at least rows) (iei : ℕ) where
     abbrev pub s : State
     s = record { at = at; seen = l.seen; highest = l.highest }
 
@@ -144,43 +146,43 @@ module _ (t : List Row) (start : ℕ) (option : Bool) (part rows₀ : List ℕ) 
     abbrev x : ℕ
     x = get_or part at 0
 
-    -- how the element came, under this IEI and place or 255, is the step there
-    abbrev pub Here : Came → Type 0
-    Here c = found_at s x iei k (length left) c ≡ step_of (step t start option (met_of s) at left)
+    -- how the element came, under this IEI and its place, is the step there
+    abbrev pub Here : Answered ℕ → Result Came CutShort → Type 0
+    Here k c = found_at s x iei k (length left) c ≡ step_of (step t start option (met_of s) at left)
 
     -- the two ways: without a place, and with one by its row
-    abbrev pub strange_here : Came
+    abbrev pub strange_here : Result Came CutShort
     strange_here = came_strange x (missing start left) left (unknown_length start left)
 
-    abbrev pub known_here : Row → Came
-    known_here r = came_known r iei option (bit k (set_of l.seen)) (ltb k l.highest) left
+    abbrev pub known_here : ℕ → Row → Result Came CutShort
+    known_here k r = Ok (came_known r iei option (bit k (set_of l.seen)) (ltb k l.highest) left)
 
-    ahead-is : (e : Element) (v : State) → Nexts t start option part s e v → ahead t least rows e (from t start option part v) e.placed ≡ whole
+    ahead-is : (e : Element) (v : State) → Nexts t start option part s e v → ahead t least rows e (from t start option part v) e.place e.placed ≡ whole
     unfolding element_of
     ahead-is e v n =
         let d : DefElement = n.element in
-        ap (λ (y : Element). ahead t least rows y (from t start option part v) y.placed) n.is
+        ap (λ (y : Element). ahead t least rows y (from t start option part v) y.place y.placed) n.is
         ∙ sym (front t least rows d.at d.octets d.place d.verdict (from t start option part v) (has-place n.stands))
         ∙ ap (λ (p : Parted). plain_rows t least p rows) (sym n.parts)
         ∙ l.tells
 
     -- without a place
-    pub none-strange : Here strange_here → none ≡ whole
+    pub none-strange : Here None strange_here → none ≡ whole
     none-strange h = by (unknown_length start left) h
       where
-        by_next : (n : ℕ) → Here (Came.Is n Placed.Unknown) → none ≡ whole
+        by_next : (n : ℕ) → Here None (Ok (record { len = n; placed = Placed.Unknown })) → none ≡ whole
         by_next n q = ahead-is _ _ (nexts t start option part s l.line.within _ _ q)
 
-        by-cut : (b : Bool) → Here (pick b (Came.Cut (missing start left)) (Came.Is (length left) Placed.Unknown)) → none ≡ whole
+        by-cut : (b : Bool) → Here None (pick b (Err (record { missing = missing start left })) (Ok (record { len = length left; placed = Placed.Unknown }))) → none ≡ whole
         by-cut true q = ap (λ (p : Parted). plain_rows t least p rows) (sym (cuts t start option part s l.line.within q)) ∙ l.tells
         by-cut false q = by_next (length left) q
 
-        by : (o : Option ℕ) → Here (came_strange x (missing start left) left o) → none ≡ whole
+        by : (o : Option ℕ) → Here None (came_strange x (missing start left) left o) → none ≡ whole
         by (some n) q = by_next n q
         by none q = by-cut (required x) q
 
     -- with one, by its row
-    module _ (has : k ≡ 255 → ⊥) (known-here : Here (known_here (row_at t k))) where
+    module _ (k : ℕ) (known-here : Here (Some k) (known_here k (row_at t k))) where
       abbrev row : Row
       row = row_at t k
 
@@ -188,7 +190,7 @@ module _ (t : List Row) (start : ℕ) (option : Bool) (part rows₀ : List ℕ) 
       n = (fit_of row left).len
 
       abbrev element : Verdict → Element
-      element v = record { start = at; len = n; iei = iei; place = k; placed = placed_for iei v }
+      element v = record { start = at; len = n; iei = iei; place = Some k; placed = placed_for iei v }
 
       abbrev then : State
       then = record { at = at + n; seen = seen_of (including_place k (set_of l.seen)); highest = max k l.highest }
@@ -197,16 +199,15 @@ module _ (t : List Row) (start : ℕ) (option : Bool) (part rows₀ : List ℕ) 
       verdict = judged option (bit k (set_of l.seen)) (ltb k l.highest) (fit_of row left).taken
 
       next-is : Nexts t start option part s (element verdict) then
-      unfolding state_at
-      next-is = nexts t start option part s l.line.within _ _ (rw (ne_eqb k 255 has) at known-here)
+      next-is = nexts t start option part s l.line.within _ _ known-here
 
-      by-verdict : ((v : Verdict) → ahead t least rows (element v) (from t start option part then) (placed_for iei v) ≡ none) → none ≡ whole
+      by-verdict : ((v : Verdict) → ahead t least rows (element v) (from t start option part then) (Some k) (placed_for iei v) ≡ none) → none ≡ whole
       by-verdict f = sym (f verdict) ∙ ahead-is _ _ next-is
 
       pub none_below : k < least → none ≡ whole
       none_below h = by-verdict (by (lt-leb least k h))
         where
-          by : leb least k ≡ false → (v : Verdict) → ahead t least rows (element v) (from t start option part then) (placed_for iei v) ≡ none
+          by : leb least k ≡ false → (v : Verdict) → ahead t least rows (element v) (from t start option part then) (Some k) (placed_for iei v) ≡ none
           by e accepted = rw e
           by e unknown = refl
           by e malformed = refl
@@ -220,7 +221,7 @@ module _ (t : List Row) (start : ℕ) (option : Bool) (part rows₀ : List ℕ) 
           no true y = rw (ne_eqb iei (first_iei t k) h)
           no false y = refl
 
-          by : (v : Verdict) → ahead t least rows (element v) (from t start option part then) (placed_for iei v) ≡ none
+          by : (v : Verdict) → ahead t least rows (element v) (from t start option part then) (Some k) (placed_for iei v) ≡ none
           by accepted = no (leb least k) _
           by unknown = refl
           by malformed = refl
@@ -235,7 +236,7 @@ module _ (t : List Row) (start : ℕ) (option : Bool) (part rows₀ : List ℕ) 
         pub none-taken : (fit_of row left).taken ≡ false → none ≡ whole
         none-taken q =
             let bad : verdict ≡ malformed = verdict-is ∙ rw q in
-            ap (λ (v : Verdict). ahead t least rows (element v) (from t start option part then) (placed_for iei v)) (sym bad) ∙ ahead-is _ _ next-is
+            ap (λ (v : Verdict). ahead t least rows (element v) (from t start option part then) (Some k) (placed_for iei v)) (sym bad) ∙ ahead-is _ _ next-is
 
         pub enters : iei ≡ first_iei t k → (fit_of row left).taken ≡ true → Enters t start option part rows₀ at k rows n
         unfolding element_of meet row_entered
@@ -244,7 +245,8 @@ module _ (t : List Row) (start : ℕ) (option : Bool) (part rows₀ : List ℕ) 
             let d : DefElement = next-is.element in
             let a : Accepted t (met_of s) (met_of then) d =
             accepted-one next-is.stands (known-accepted d.verdict (iei_at d) (ap (placed_for iei) (sym good) ∙ ap (λ (y : Element). y.placed) next-is.is)) in
-            let p : k ≡ a.place = ap (λ (y : Element). y.place) next-is.is ∙ ap (λ (o : Option ℕ). Option.get_or o 255) a.has in
+            let o : Some k ≡ Some a.place = ap (λ (y : Element). y.place) next-is.is ∙ ap place_of a.has in
+            let p : k ≡ a.place = cc in
             let c : InLine t start option part then (k + 1) =
             record {
               within = next-is.within;
@@ -252,7 +254,7 @@ module _ (t : List Row) (start : ℕ) (option : Bool) (part rows₀ : List ℕ) 
               unmet = λ j g. met-with a j ∙ rw (ne_eqb j a.place (λ e. omega (arith, e, p, g))) (l.line.unmet j (omega arith));
               behind = omega (arith, l.line.behind);
             } in
-            let r : ahead t least rows (element accepted) (from t start option part then) (placed_for iei accepted) ≡ rest t start option part then (k + 1) (over_at (4 * k) (1 ∷ (at + head_of t k) ∷ (n - head_of t k) ∷ iei ∷ []) rows) =
+            let r : ahead t least rows (element accepted) (from t start option part then) (Some k) (placed_for iei accepted) ≡ rest t start option part then (k + 1) (over_at (4 * k) (1 ∷ (at + head_of t k) ∷ (n - head_of t k) ∷ iei ∷ []) rows) =
             rw (le-leb least k h, eq-eqb iei (first_iei t k) f, add-one k) in
             record {
               some-octet = next-is.some-octet;
@@ -269,7 +271,7 @@ module _ (t : List Row) (start : ℕ) (option : Bool) (part rows₀ : List ℕ) 
                         rw e
                         (ap (λ (i : ℕ). rest t start option part then (k + 1) (over_at (4 * k) (1 ∷ (at + head_of t k) ∷ (n - head_of t k) ∷ i ∷ []) rows)) (sym f)
                         ∙ sym r
-                        ∙ ap (λ (v : Verdict). ahead t least rows (element v) (from t start option part then) (placed_for iei v)) (sym good)
+                        ∙ ap (λ (v : Verdict). ahead t least rows (element v) (from t start option part then) (Some k) (placed_for iei v)) (sym good)
                         ∙ ahead-is _ _ next-is);
                   };
             }

@@ -1,4 +1,3 @@
 -- What the answers of this crate are by the definitions.
 pub mod Entered
 pub mod Plains
-pub mod ByNumber

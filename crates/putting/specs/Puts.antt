@@ -1,6 +1,6 @@
 -- One element put into the front of a buffer: where its value fits its form, its IEI and the four bits of a half octet make an octet,
 -- and there is room for all of it. Else nothing is put.
-use Rattle.std.specs.Prelude.{ℕ, ◌≡◌, List, Bool, true, ◌&&◌, length, leb}
+use Rattle.std.specs.Prelude.{ℕ, ◌≡◌, List, Bool, true, ◌&&◌, length, leb, Option, Some, None}
 use Rattle.definitions.specs.Basic.{pick, over}
 use Rattle.definitions.specs.Rows.{Form, half, fixed, tlv, tlv-e}
 use Rattle.definitions.specs.Values.{fits}
@@ -22,6 +22,6 @@ unfoldable pub puts : Form → ℕ → ℕ → List ℕ → List ℕ → Bool
 puts f source iei s out = writable f source iei s && leb (length (encoded f iei s)) (length out)
 
 -- a piece at the front, and how many octets it has, where it is put; else none, and the buffer as it was
-pub record PutIf (b : Bool) (piece before : List ℕ) (n : ℕ) (after : List ℕ) : Type 0 where
-  pub takes : n ≡ pick b (length piece) 0
+pub record PutIf (b : Bool) (piece before : List ℕ) (r : Option ℕ) (after : List ℕ) : Type 0 where
+  pub takes : r ≡ pick b (Some (length piece)) None
   pub octets : after ≡ pick b (over piece before) before

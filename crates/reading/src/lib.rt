@@ -1,18 +1,20 @@
-// Reading an optional part by a lent table, into two logs. One of which the table says all is read by the plain pass, which writes nothing
-// where it is not one, or too long, or without room for its rows.
+// Reading an optional part by a lent table or by the number of one, into two logs. One of which the table says all is read by the plain
+// pass, which writes nothing where it is not one, or too long, or without room for its rows.
 #![tactic(auto)]
 
 ghost use Rattle.std.specs.Prelude.{◌≡◌};
 ghost use Rattle.std.proofs.Math.Option.{none};
 ghost use Rattle.definitions.specs.Rows.{rows_of, first_bad};
-ghost use Rattle.definitions.specs.Reading.{reading};
+ghost use Rattle.definitions.specs.Reading.{reading, reading_by};
 ghost use Rattle.rows.specs.Indexed.{Indexed};
 ghost use Rattle.filling.specs.Decodes.{lent_of, Reads};
 
-use checks::{Checked, check_and_index};
-use filling::Decoded;
+use checks::check_and_index;
+use elements::walk::Tally;
+use filling::{DecodeError, Decoded};
 use noting::decode_noted;
 use plain_by_table::plain;
+use real::{TLVE_START, numbered};
 
 // By a table that passes its check, and its index.
 fn decode_by_index(
@@ -29,7 +31,7 @@ fn decode_by_index(
     ensures { Reads (reading table.now tlve_start option octets.now (lent_of rows.old kept.old order.old)) result rows.new kept.new order.new }
 {
     if plain(octets, table, index, rows) {
-        return Decoded::Done(0, 0);
+        return Ok(Tally { kept: 0, order: 0 });
     }
     decode_noted(octets, table, index, tlve_start, option, rows, kept, order)
 }
@@ -47,17 +49,41 @@ pub fn decode_optional_ies(
     ensures { Reads (reading table.now tlve_start out_of_sequence octets.now (lent_of rows.old kept.old order.old)) result rows.new kept.new order.new }
 {
     let mut index = [255u8; 256];
-    match check_and_index(table, &mut index) {
-        Checked::Passes => decode_by_index(
-            octets,
-            table,
-            &index,
-            tlve_start,
-            out_of_sequence,
-            rows,
-            kept,
-            order,
-        ),
-        Checked::BadRow(k) => Decoded::BadTable(k),
-    }
+    check_and_index(table, &mut index)?;
+    decode_by_index(
+        octets,
+        table,
+        &index,
+        tlve_start,
+        out_of_sequence,
+        rows,
+        kept,
+        order,
+    )
+}
+
+// By table number: 0 is P, 1 to 6 the real tables, with their start number.
+pub fn decode_optional_ies_by(
+    number: u32,
+    octets: &[u8],
+    out_of_sequence: bool,
+    rows: &mut [u32],
+    kept: &mut [u8],
+    order: &mut [u8],
+) -> Decoded
+    ensures { Reads (reading_by number out_of_sequence octets.now (lent_of rows.old kept.old order.old)) result rows.new kept.new order.new }
+{
+    let Some(table) = numbered(number) else {
+        return Err(DecodeError::NoTable);
+    };
+    decode_by_index(
+        octets,
+        table.rows,
+        table.index,
+        TLVE_START,
+        out_of_sequence,
+        rows,
+        kept,
+        order,
+    )
 }

@@ -1,2 +1,4 @@
 -- What holds of every constant table and index.
 pub mod RealLaws
+pub mod Numbers
+pub mod Passing

@@ -1,2 +1,3 @@
 -- The constants of this crate by table number.
 pub mod Real
+pub mod Numbered

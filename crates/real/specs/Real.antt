@@ -1,6 +1,6 @@
 -- The index of table P and of the six real tables, sixteen entries a line; proofs/RealLaws.antt shows that each is the index of its table.
-use Rattle.std.specs.Prelude.{ℕ, zero, suc, List, [], ◌∷◌}
-use Rattle.std.proofs.Math.Option.{get_or}
+use Rattle.std.specs.Prelude.{ℕ, zero, suc, List, [], ◌∷◌, Option as Answered, Some, None}
+use Rattle.std.proofs.Math.Option.{Option, none, some, get_or}
 use Rattle.definitions.specs.Basic.{concat}
 use Rattle.definitions.specs.Tables.{table_of, mandatory_table_of}
 use Rattle.indexing.specs.Marks.{blank}
@@ -179,3 +179,8 @@ real_index_of (suc (suc (suc (suc (suc (suc (suc n))))))) = blank
 -- mandatory rows; P has none
 abbrev pub real_mandatory_of : ℕ → List ℕ
 real_mandatory_of n = get_or (mandatory_table_of n) []
+
+-- the table that a number names, as the code says it
+abbrev pub table_as : Option (List ℕ) → Answered (List ℕ)
+table_as none = None
+table_as (some t) = Some t

@@ -1,19 +1,25 @@
-// Table P, and the six real tables of TS 24.501, edition 16.8.0, as constants: their rows after the message type, and the index
-// of each table's IEIs. The words before a row name its element; docs/TABLES.md says where each number is from.
+// Table P, and the six real tables of TS 24.501, edition 16.8.0, as data in read-only memory: their rows after the message type, and the
+// index of each table's IEIs. The words before a row name its element; docs/TABLES.md says where each number is from.
 #![tactic(auto)]
 
-ghost use Rattle.std.specs.Prelude.{◌≡◌};
+ghost use Rattle.std.specs.Prelude.{◌≡◌, Some, option_copied};
+ghost use Rattle.definitions.specs.Tables.{mandatory_table_of};
+ghost use Rattle.real.specs.Real.{table_as};
+ghost use Rattle.real.specs.Numbered.{IsNumbered};
 ghost use Rattle.definitions.specs.Rows.{rows_of, first_bad, place_of, index};
 ghost use Rattle.definitions.specs.Mandatory.{mandatory_rows_of, first_bad_mandatory};
 ghost use Rattle.rows.specs.Answers.{place_as};
 ghost use Rattle.checks.specs.Answers.{checked_as};
 ghost use Rattle.real.specs.Real.{real_of, real_mandatory_of};
 
-use checks::{Checked, check_mandatory_table, check_table};
-use rows::index::{Place, place_of};
+use checks::{BadRow, check_mandatory_table, check_table};
+use rows::index::place_of;
+
+// P has no mandatory row.
+static NO_ROWS: [u32; 0] = [];
 
 // Table P: five places.
-pub const TABLE_P: [u32; 50] = [
+static TABLE_P: [u32; 50] = [
     // place 0
     1, 0xc0, 0, 0, 0, 0, 0, 0, 1, 7,
     // place 1
@@ -27,7 +33,7 @@ pub const TABLE_P: [u32; 50] = [
 ];
 
 // Registration request, optional rows.
-pub const REGISTRATION_REQUEST: [u32; 320] = [
+static REGISTRATION_REQUEST: [u32; 320] = [
     // non-current native nas key set identifier, 9.11.3.32
     1, 0xc0, 0, 0, 0, 0, 0, 1, 1, 65_535,
     // 5gmm capability, 9.11.3.1
@@ -95,7 +101,7 @@ pub const REGISTRATION_REQUEST: [u32; 320] = [
 ];
 
 // Registration request, mandatory rows.
-pub const REGISTRATION_REQUEST_MANDATORY: [u32; 12] = [
+static REGISTRATION_REQUEST_MANDATORY: [u32; 12] = [
     // 5gs registration type, 9.11.3.7
     0, 0, 0, 32_639,
     // ngksi, 9.11.3.32
@@ -105,7 +111,7 @@ pub const REGISTRATION_REQUEST_MANDATORY: [u32; 12] = [
 ];
 
 // Registration accept, optional rows.
-pub const REGISTRATION_ACCEPT: [u32; 390] = [
+static REGISTRATION_ACCEPT: [u32; 390] = [
     // 5g-guti, 9.11.3.4
     1, 0x77, 0, 0, 0, 3, 0, 14, 14, 255,
     // equivalent plmns, 9.11.3.45
@@ -187,13 +193,13 @@ pub const REGISTRATION_ACCEPT: [u32; 390] = [
 ];
 
 // Registration accept, mandatory rows.
-pub const REGISTRATION_ACCEPT_MANDATORY: [u32; 4] = [
+static REGISTRATION_ACCEPT_MANDATORY: [u32; 4] = [
     // 5gs registration result, 9.11.3.6
     3, 0, 2, 255,
 ];
 
 // Registration reject, optional rows.
-pub const REGISTRATION_REJECT: [u32; 60] = [
+static REGISTRATION_REJECT: [u32; 60] = [
     // t3346 value, 9.11.2.4
     1, 0x5f, 0, 0, 0, 2, 0, 3, 3, 255,
     // t3502 value, 9.11.2.4
@@ -209,13 +215,13 @@ pub const REGISTRATION_REJECT: [u32; 60] = [
 ];
 
 // Registration reject, mandatory rows.
-pub const REGISTRATION_REJECT_MANDATORY: [u32; 4] = [
+static REGISTRATION_REJECT_MANDATORY: [u32; 4] = [
     // 5gmm cause, 9.11.3.2
     2, 1, 1, 255,
 ];
 
 // Service request, optional rows.
-pub const SERVICE_REQUEST: [u32; 40] = [
+static SERVICE_REQUEST: [u32; 40] = [
     // uplink data status, 9.11.3.57
     1, 0x40, 0, 0, 0, 2, 0, 4, 34, 255,
     // pdu session status, 9.11.3.44
@@ -227,7 +233,7 @@ pub const SERVICE_REQUEST: [u32; 40] = [
 ];
 
 // Service request, mandatory rows.
-pub const SERVICE_REQUEST_MANDATORY: [u32; 12] = [
+static SERVICE_REQUEST_MANDATORY: [u32; 12] = [
     // ngksi, 9.11.3.32
     0, 0, 0, 65_535,
     // service type, 9.11.3.50
@@ -237,7 +243,7 @@ pub const SERVICE_REQUEST_MANDATORY: [u32; 12] = [
 ];
 
 // PDU session establishment request, optional rows.
-pub const PDU_SESSION_ESTABLISHMENT_REQUEST: [u32; 130] = [
+static PDU_SESSION_ESTABLISHMENT_REQUEST: [u32; 130] = [
     // pdu session type, 9.11.4.11
     1, 0x90, 0, 0, 0, 0, 0, 1, 1, 32_639,
     // ssc mode, 9.11.4.16
@@ -267,13 +273,13 @@ pub const PDU_SESSION_ESTABLISHMENT_REQUEST: [u32; 130] = [
 ];
 
 // PDU session establishment request, mandatory rows.
-pub const PDU_SESSION_ESTABLISHMENT_REQUEST_MANDATORY: [u32; 4] = [
+static PDU_SESSION_ESTABLISHMENT_REQUEST_MANDATORY: [u32; 4] = [
     // integrity protection maximum data rate, 9.11.4.7
     2, 2, 2, 255,
 ];
 
 // PDU session establishment accept, optional rows.
-pub const PDU_SESSION_ESTABLISHMENT_ACCEPT: [u32; 160] = [
+static PDU_SESSION_ESTABLISHMENT_ACCEPT: [u32; 160] = [
     // 5gsm cause, 9.11.4.2
     1, 0x59, 0, 0, 0, 1, 1, 2, 2, 255,
     // pdu address, 9.11.4.10
@@ -309,7 +315,7 @@ pub const PDU_SESSION_ESTABLISHMENT_ACCEPT: [u32; 160] = [
 ];
 
 // PDU session establishment accept, mandatory rows.
-pub const PDU_SESSION_ESTABLISHMENT_ACCEPT_MANDATORY: [u32; 16] = [
+static PDU_SESSION_ESTABLISHMENT_ACCEPT_MANDATORY: [u32; 16] = [
     // selected pdu session type, 9.11.4.11
     0, 0, 0, 32_639,
     // selected ssc mode, 9.11.4.16
@@ -321,7 +327,7 @@ pub const PDU_SESSION_ESTABLISHMENT_ACCEPT_MANDATORY: [u32; 16] = [
 ];
 
 // The index of table P.
-pub const INDEX_P: [u8; 256] = [
+static INDEX_P: [u8; 256] = [
     // from 0x00 on
     255, 255, 255, 255, 255, 255, 255, 255, 255, 255, 255, 255, 255, 255, 255, 255,
     // from 0x10 on
@@ -357,7 +363,7 @@ pub const INDEX_P: [u8; 256] = [
 ];
 
 // The index of registration request.
-pub const INDEX_REGISTRATION_REQUEST: [u8; 256] = [
+static INDEX_REGISTRATION_REQUEST: [u8; 256] = [
     // from 0x00 on
     255, 255, 255, 255, 255, 255, 255, 255, 255, 255, 255, 255, 255, 255, 255, 255,
     // from 0x10 on
@@ -393,7 +399,7 @@ pub const INDEX_REGISTRATION_REQUEST: [u8; 256] = [
 ];
 
 // The index of registration accept.
-pub const INDEX_REGISTRATION_ACCEPT: [u8; 256] = [
+static INDEX_REGISTRATION_ACCEPT: [u8; 256] = [
     // from 0x00 on
     255, 255, 255, 255, 255, 255, 255, 255, 255, 255, 255, 255, 255, 255, 255, 255,
     // from 0x10 on
@@ -429,7 +435,7 @@ pub const INDEX_REGISTRATION_ACCEPT: [u8; 256] = [
 ];
 
 // The index of registration reject.
-pub const INDEX_REGISTRATION_REJECT: [u8; 256] = [
+static INDEX_REGISTRATION_REJECT: [u8; 256] = [
     // from 0x00 on
     255, 255, 255, 255, 255, 255, 255, 255, 255, 255, 255, 255, 255, 255, 255, 255,
     // from 0x10 on
@@ -465,7 +471,7 @@ pub const INDEX_REGISTRATION_REJECT: [u8; 256] = [
 ];
 
 // The index of service request.
-pub const INDEX_SERVICE_REQUEST: [u8; 256] = [
+static INDEX_SERVICE_REQUEST: [u8; 256] = [
     // from 0x00 on
     255, 255, 255, 255, 255, 255, 255, 255, 255, 255, 255, 255, 255, 255, 255, 255,
     // from 0x10 on
@@ -501,7 +507,7 @@ pub const INDEX_SERVICE_REQUEST: [u8; 256] = [
 ];
 
 // The index of PDU session establishment request.
-pub const INDEX_PDU_SESSION_ESTABLISHMENT_REQUEST: [u8; 256] = [
+static INDEX_PDU_SESSION_ESTABLISHMENT_REQUEST: [u8; 256] = [
     // from 0x00 on
     255, 255, 255, 255, 255, 255, 255, 255, 255, 255, 255, 255, 255, 255, 255, 255,
     // from 0x10 on
@@ -537,7 +543,7 @@ pub const INDEX_PDU_SESSION_ESTABLISHMENT_REQUEST: [u8; 256] = [
 ];
 
 // The index of PDU session establishment accept.
-pub const INDEX_PDU_SESSION_ESTABLISHMENT_ACCEPT: [u8; 256] = [
+static INDEX_PDU_SESSION_ESTABLISHMENT_ACCEPT: [u8; 256] = [
     // from 0x00 on
     255, 255, 255, 255, 255, 255, 255, 255, 255, 255, 255, 255, 255, 255, 255, 255,
     // from 0x10 on
@@ -572,136 +578,97 @@ pub const INDEX_PDU_SESSION_ESTABLISHMENT_ACCEPT: [u8; 256] = [
     255, 255, 255, 255, 255, 255, 255, 255, 255, 255, 255, 255, 255, 255, 255, 255,
 ];
 
-// The constants by table number, 0 for P and 1 to 6 for the real tables; another number has no row.
+// ---- by table number: 0 is P, 1 to 6 the real tables; another number names no table
 
-// Whether a table passes; proofs/RealLaws.antt shows that each does.
-pub fn check_real(number: usize) -> Checked
-    ensures { checked_as result ≡ first_bad (rows_of (real_of number)) }
+// The start number of the long form, of all of them.
+pub const TLVE_START: u8 = 0x70;
+
+// The rows of a table and their index.
+#[derive(Clone, Copy)]
+pub struct Table {
+    pub rows: &'static [u32],
+    pub index: &'static [u8; 256],
+}
+
+fn numbered_by(rows: &'static [u32], index: &'static [u8; 256]) -> Option<Table>
+    ensures { result ≡ Some (record { rows = rows.entry; index = index.entry }) }
+{
+    Some(Table { rows, index })
+}
+
+// The table that a number names.
+pub fn numbered(number: u32) -> Option<Table>
+    ensures { IsNumbered number result }
 {
     match number {
-        0 => check_table(&TABLE_P),
-        1 => check_table(&REGISTRATION_REQUEST),
-        2 => check_table(&REGISTRATION_ACCEPT),
-        3 => check_table(&REGISTRATION_REJECT),
-        4 => check_table(&SERVICE_REQUEST),
-        5 => check_table(&PDU_SESSION_ESTABLISHMENT_REQUEST),
-        6 => check_table(&PDU_SESSION_ESTABLISHMENT_ACCEPT),
-        _ => Checked::Passes,
+        0 => numbered_by(&TABLE_P, &INDEX_P),
+        1 => numbered_by(&REGISTRATION_REQUEST, &INDEX_REGISTRATION_REQUEST),
+        2 => numbered_by(&REGISTRATION_ACCEPT, &INDEX_REGISTRATION_ACCEPT),
+        3 => numbered_by(&REGISTRATION_REJECT, &INDEX_REGISTRATION_REJECT),
+        4 => numbered_by(&SERVICE_REQUEST, &INDEX_SERVICE_REQUEST),
+        5 => numbered_by(
+            &PDU_SESSION_ESTABLISHMENT_REQUEST,
+            &INDEX_PDU_SESSION_ESTABLISHMENT_REQUEST,
+        ),
+        6 => numbered_by(
+            &PDU_SESSION_ESTABLISHMENT_ACCEPT,
+            &INDEX_PDU_SESSION_ESTABLISHMENT_ACCEPT,
+        ),
+        _ => None,
     }
 }
 
-pub fn check_real_mandatory(number: usize) -> Checked
-    ensures { checked_as result ≡ first_bad_mandatory (mandatory_rows_of (real_mandatory_of number)) }
+// The mandatory rows of the message that a number names; P has none.
+pub fn mandatory(number: u32) -> Option<&'static [u32]>
+    ensures { option_copied result ≡ table_as (mandatory_table_of number) }
 {
     match number {
-        1 => check_mandatory_table(&REGISTRATION_REQUEST_MANDATORY),
-        2 => check_mandatory_table(&REGISTRATION_ACCEPT_MANDATORY),
-        3 => check_mandatory_table(&REGISTRATION_REJECT_MANDATORY),
-        4 => check_mandatory_table(&SERVICE_REQUEST_MANDATORY),
-        5 => check_mandatory_table(&PDU_SESSION_ESTABLISHMENT_REQUEST_MANDATORY),
-        6 => check_mandatory_table(&PDU_SESSION_ESTABLISHMENT_ACCEPT_MANDATORY),
-        _ => Checked::Passes,
+        0 => Some(&NO_ROWS),
+        1 => Some(&REGISTRATION_REQUEST_MANDATORY),
+        2 => Some(&REGISTRATION_ACCEPT_MANDATORY),
+        3 => Some(&REGISTRATION_REJECT_MANDATORY),
+        4 => Some(&SERVICE_REQUEST_MANDATORY),
+        5 => Some(&PDU_SESSION_ESTABLISHMENT_REQUEST_MANDATORY),
+        6 => Some(&PDU_SESSION_ESTABLISHMENT_ACCEPT_MANDATORY),
+        7.. => None,
+    }
+}
+
+// A number as small as those that name a table, or 7, which names none.
+fn small(number: usize) -> u32
+    ensures same_rows { real_of result ≡ real_of number }
+    ensures same_mandatory { real_mandatory_of result ≡ real_mandatory_of number }
+{
+    if number > 6 {
+        return 7;
+    }
+    number as u32
+}
+
+// Whether a table passes; proofs/RealLaws.antt shows that each does. One that no number names has no row.
+pub fn check_real(number: usize) -> Result<(), BadRow>
+    ensures { checked_as result ≡ first_bad (rows_of (real_of number)) }
+{
+    match numbered(small(number)) {
+        Some(table) => check_table(table.rows),
+        None => Ok(()),
+    }
+}
+
+pub fn check_real_mandatory(number: usize) -> Result<(), BadRow>
+    ensures { checked_as result ≡ first_bad_mandatory (mandatory_rows_of (real_mandatory_of number)) }
+{
+    match mandatory(small(number)) {
+        Some(rows) => check_mandatory_table(rows),
+        None => Ok(()),
     }
 }
 
 // The place of an IEI, by the table's constant index.
-pub fn place_real(number: usize, iei: u8) -> Place
+pub fn place_real(number: usize, iei: u8) -> Option<usize>
     ensures { place_as result ≡ place_of (rows_of (real_of number)) iei }
 {
-    match number {
-        0 => place_of(&INDEX_P, iei),
-        1 => place_of(&INDEX_REGISTRATION_REQUEST, iei),
-        2 => place_of(&INDEX_REGISTRATION_ACCEPT, iei),
-        3 => place_of(&INDEX_REGISTRATION_REJECT, iei),
-        4 => place_of(&INDEX_SERVICE_REQUEST, iei),
-        5 => place_of(&INDEX_PDU_SESSION_ESTABLISHMENT_REQUEST, iei),
-        6 => place_of(&INDEX_PDU_SESSION_ESTABLISHMENT_ACCEPT, iei),
-        _ => Place::Nowhere,
-    }
-}
-
-// ---- by name: each table and its index as a value, told by the definitions, so that a caller need not look at its numbers
-
-pub fn table_p() -> [u32; 50]
-    ensures { result ≡ real_of 0 }
-{
-    TABLE_P
-}
-
-pub fn index_p() -> [u8; 256]
-    ensures { result ≡ index (rows_of (real_of 0)) }
-{
-    INDEX_P
-}
-
-pub fn registration_request() -> [u32; 320]
-    ensures { result ≡ real_of 1 }
-{
-    REGISTRATION_REQUEST
-}
-
-pub fn index_registration_request() -> [u8; 256]
-    ensures { result ≡ index (rows_of (real_of 1)) }
-{
-    INDEX_REGISTRATION_REQUEST
-}
-
-pub fn registration_accept() -> [u32; 390]
-    ensures { result ≡ real_of 2 }
-{
-    REGISTRATION_ACCEPT
-}
-
-pub fn index_registration_accept() -> [u8; 256]
-    ensures { result ≡ index (rows_of (real_of 2)) }
-{
-    INDEX_REGISTRATION_ACCEPT
-}
-
-pub fn registration_reject() -> [u32; 60]
-    ensures { result ≡ real_of 3 }
-{
-    REGISTRATION_REJECT
-}
-
-pub fn index_registration_reject() -> [u8; 256]
-    ensures { result ≡ index (rows_of (real_of 3)) }
-{
-    INDEX_REGISTRATION_REJECT
-}
-
-pub fn service_request() -> [u32; 40]
-    ensures { result ≡ real_of 4 }
-{
-    SERVICE_REQUEST
-}
-
-pub fn index_service_request() -> [u8; 256]
-    ensures { result ≡ index (rows_of (real_of 4)) }
-{
-    INDEX_SERVICE_REQUEST
-}
-
-pub fn pdu_session_establishment_request() -> [u32; 130]
-    ensures { result ≡ real_of 5 }
-{
-    PDU_SESSION_ESTABLISHMENT_REQUEST
-}
-
-pub fn index_pdu_session_establishment_request() -> [u8; 256]
-    ensures { result ≡ index (rows_of (real_of 5)) }
-{
-    INDEX_PDU_SESSION_ESTABLISHMENT_REQUEST
-}
-
-pub fn pdu_session_establishment_accept() -> [u32; 160]
-    ensures { result ≡ real_of 6 }
-{
-    PDU_SESSION_ESTABLISHMENT_ACCEPT
-}
-
-pub fn index_pdu_session_establishment_accept() -> [u8; 256]
-    ensures { result ≡ index (rows_of (real_of 6)) }
-{
-    INDEX_PDU_SESSION_ESTABLISHMENT_ACCEPT
+    let table = numbered(small(number))?;
+    let index = table.index;
+    place_of(index, iei)
 }

@@ -1,63 +1,57 @@
--- A buffer that is filled, or compared, an element a turn; an answer compared.
--- By one element more, and by the tests.
+-- What `all` answers of a buffer with its indices, what a closure gave at each number, and numbers read at a position.
+-- By induction over the buffer and the numbers, and by the definitions' laws of octets.
 use Prim.Native.Nat.{ℕ, ◌+◌, ◌*◌, ◌≤◌, ◌<◌, zero, suc}
 use native.Mathlib.Omega.{arith}
 use native.Mathlib.Numerals.{add-one}
-use mathlib.Core.Path.{◌≡◌, refl, ap, sym, ◌∙◌}
-use mathlib.Core.List.{List, [], ◌∷◌}
+use mathlib.Core.Path.{◌≡◌, refl, ap, sym, subst, ◌∙◌}
+use mathlib.Core.List.{List, [], ◌∷◌, ◌++◌, map}
 use mathlib.Core.Bool.{Bool, true, false, not, ◌&&◌}
-use mathlib.Core.Option
-use mathlib.Core.Option.{Option, none, some}
-use lib.Dec.{eqb, ltb}
-use lib.ListN.{length, get_or, take, set, replicate, length-take, length-replicate, length-append}
-use lib.Seq.{take-suc-set, take_all}
-use borrow.Author.Tests.{eqb-true, eqb-false, eq-eqb, ne_eqb}
-use Rattle.definitions.specs.Basic.{pick}
-use Rattle.definitions.proofs.Checks.{none_of, one_of}
-use Rattle.octets.specs.Answers.{pair_of, four_of}
-use Rattle.octets.specs.declared.Cursor.{Cursor}
-use Rattle.octets.specs.declared.Pair.{Pair}
-use Rattle.octets.specs.declared.Four.{Four}
+use mathlib.Core.Option.{Option, some}
+use lib.Dec.{eqb, ltb, leb}
+use lib.ListN.{length, get_or, take, replicate, drop, length-drop, length-take, length-replicate}
+use Rattle.std.specs.Fn.{Called}
+use Rattle.std.specs.List.{range_with_len, enumerate_from, list_all}
+use Rattle.std.proofs.lemmas.List.FromFn.{fill_by_all, map-range_with_len_more}
+use denote.Param.Members.{Mut}
+use Rattle.std.specs.Array.{IsFromFnResult, IsFromFnResultFrom}
+use Rattle.definitions.specs.Basic.{pick, is_none}
+use Rattle.definitions.specs.Values.{first_from}
+use Rattle.definitions.proofs.Octets.{number-two, number-four, number_short}
+use Rattle.std.proofs.Common.{add-zero}
+use Rattle.std.proofs.lemmas.List.{get_or-drop}
 use Rattle.recorded.specs.Format.{after, number_from, number_in, repeat_at, string_length, octet_in, first}
-use Rattle.recorded.specs.Answer.{values_are, answer_is, eight_from, value_is}
-use Rattle.recorded.specs.Lent.{lent_octet, lent_number, differs}
+use Rattle.recorded.specs.Lent.{lent_octet, lent_number, differs, holds}
 
--- on twice is on once by both
-pub after-after : (at m n k : ℕ) → m + n ≡ k → after (after at m) n ≡ after at k
-unfolding after
-after-after at m n k e = omega arith
-
--- ---- a buffer filled: the elements up to i are there
-
--- one element more
-pub fill_step : (f : ℕ → ℕ) (d : List ℕ) (i v : ℕ) → i < length d → v ≡ f i → take i d ≡ first f i → take (i + 1) (set d i v) ≡ first f (i + 1)
-unfolding first
-fill_step f d i v h e q = rw (add-one i, take-suc-set d i v h, q, e)
-
--- ---- a buffer compared: no element up to i is another one
+-- what `all` answers of the elements with their indices: that none is another one
+joined : (b l : Bool) (k : ℕ) (o : Option ℕ) → l ≡ is_none o → (b && l) ≡ is_none (pick (not b) (some k) o)
+unfolding is_none
+joined true l k o e = e
+joined false l k o e = refl
 
 module _ (f : ℕ → ℕ) (s : List ℕ) where
-  abbrev pub Alike : ℕ → Type 0
-  Alike i = (k : ℕ) → k < i → not (eqb (get_or s k 0) (f k)) ≡ false
+  all-from : (xs : List ℕ) (k : ℕ) → ((i : ℕ) → get_or xs i 0 ≡ get_or s (k + i) 0)
+      → list_all (λ (p : ℕ × ℕ). eqb p.1 (f p.0)) (enumerate_from k xs) ≡ is_none (first_from (λ i. not (eqb (get_or s i 0) (f i))) k (length xs))
+  unfolding first_from is_none
+  all-from [] k e = refl
+  all-from (x ∷ xs) k e =
+      let at : x ≡ get_or s k 0 = e 0 ∙ ap (λ (i : ℕ). get_or s i 0) (add-zero k) in
+      let rest : list_all (λ (p : ℕ × ℕ). eqb p.1 (f p.0)) (enumerate_from (k + 1) xs) ≡ is_none (first_from (λ i. not (eqb (get_or s i 0) (f i))) (suc k) (length xs)) =
+      all-from xs (k + 1) (λ i. let z : k + suc i ≡ k + 1 + i = omega arith in e (suc i) ∙ ap (λ (j : ℕ). get_or s j 0) z)
+      ∙ ap (λ (j : ℕ). is_none (first_from (λ i. not (eqb (get_or s i 0) (f i))) j (length xs))) (add-one k) in
+      ap (λ (y : ℕ). eqb y (f k) && list_all (λ (p : ℕ × ℕ). eqb p.1 (f p.0)) (enumerate_from (k + 1) xs)) at ∙ joined (eqb (get_or s k 0) (f k)) _ k _ rest
 
-  pub alike-none : Alike 0
-  alike-none k h = absurd (omega arith)
-
-  -- one element more
-  pub alike-step : (i : ℕ) → Alike i → get_or s i 0 ≡ f i → Alike (i + 1)
-  alike-step i a e k h = by (eqb k i) refl
+  pub all-alike : list_all (λ (p : ℕ × ℕ). eqb p.1 (f p.0)) (enumerate_from 0 s) ≡ not (differs f s)
+  all-alike = all-from s 0 (λ i. let z : i ≡ 0 + i = omega arith in ap (λ (j : ℕ). get_or s j 0) z) ∙ twice (is_none (first_from (λ i. not (eqb (get_or s i 0) (f i))) 0 (length s)))
     where
-      by : (b : Bool) → eqb k i ≡ b → not (eqb (get_or s k 0) (f k)) ≡ false
-      by true q = rw (eqb-true k i q, eq-eqb (get_or s i 0) (f i) e)
-      by false q = let d : k ≡ i → ⊥ = eqb-false k i q in a k (omega arith)
+      twice : (b : Bool) → b ≡ not (not b)
+      twice true = refl
+      twice false = refl
 
-  -- all of them
-  pub alike_all : (i : ℕ) → length s ≤ i → Alike i → differs f s ≡ false
-  alike_all i l a = none_of (λ k. not (eqb (get_or s k 0) (f k))) (length s) (λ k h. a k (omega arith))
-
-  -- one that is another
-  pub unlike : (i : ℕ) → i < length s → (get_or s i 0 ≡ f i → ⊥) → differs f s ≡ true
-  unlike i l n = one_of (λ k. not (eqb (get_or s k 0) (f k))) (length s) i l (ap not (ne_eqb (get_or s i 0) (f i) n))
+-- so what it answers of what is due at each index, and that there is room, say that a buffer holds n things and what was lent behind them
+pub held : (n m : ℕ) (f : ℕ → ℕ) (lent : ℕ) (s : List ℕ) {r : Bool} → n ≡ m → r ≡ list_all (λ (p : ℕ × ℕ). eqb p.1 (pick (ltb p.0 n) (f p.0) lent)) (enumerate_from 0 s)
+    → (r && leb n (length s)) ≡ holds m f lent s
+held n m f lent s e a =
+    ap (λ (b : Bool). b && leb n (length s)) (a ∙ all-alike (λ i. pick (ltb i n) (f i) lent) s) ∙ ap (λ (k : ℕ). holds k f lent s) e
 
 -- the octet of a string at i, by what the calls answer that lead to it
 pub octet-is : (at : ℕ) (list : List ℕ) (i : ℕ) {n r k x p y : ℕ} → n ≡ number_from 2 at list → r ≡ repeat_at at list → k ≡ after r 2 → x ≡ get_or list k 0 → p ≡ after at (2 + i) → y ≡ pick (ltb i n) (get_or list p 0) x → y ≡ octet_in at list i
@@ -77,25 +71,6 @@ due_number_is at list i a b d = cc
 pub due_octet_is : (at : ℕ) (list : List ℕ) (i : ℕ) {n len r k x p y o : ℕ} → n ≡ number_from 2 at list → len ≡ string_length at list → r ≡ repeat_at at list → k ≡ after r 2 → x ≡ get_or list k 0 → p ≡ after at (2 + i) → y ≡ pick (ltb i n) (get_or list p 0) x → o ≡ pick (ltb i len) y lent_octet → o ≡ due_octet at list i
 due_octet_is at list i a b d e f g h j = rw (b, octet-is at list i a d e f g h) at j
 
--- ---- an answer
-
--- another number, another count of values, and the same of both
-pub other-number : (at : ℕ) (list : List ℕ) (m : ℕ) (v : List ℕ) {o : ℕ} → o ≡ get_or list at 0 → (o ≡ m → ⊥) → false ≡ answer_is at list m v
-unfolding answer_is
-other-number at list m v e n = rw (ne_eqb (get_or list at 0) m (λ q. n (e ∙ q)))
-
-pub other-count : (at : ℕ) (list : List ℕ) (m : ℕ) (v : List ℕ) {k n : ℕ} → k ≡ after at 1 → n ≡ get_or list k 0 → (n ≡ get_or v 0 0 → ⊥) → false ≡ answer_is at list m v
-unfolding answer_is
-other-count at list m v e f n = by (eqb (get_or list at 0) m)
-  where
-    by : (b : Bool) → false ≡ (b && (eqb (get_or list (after at 1) 0) (get_or v 0 0) && values_are (after at 2) list v))
-    by true = rw (ne_eqb (get_or list (after at 1) 0) (get_or v 0 0) (λ q. n (f ∙ ap (λ (i : ℕ). get_or list i 0) e ∙ q)))
-    by false = refl
-
-pub same_answer : (at : ℕ) (list : List ℕ) (m : ℕ) (v : List ℕ) {o k n l : ℕ} {r : Bool} → o ≡ get_or list at 0 → o ≡ m → k ≡ after at 1 → n ≡ get_or list k 0 → n ≡ get_or v 0 0 → l ≡ after at 2 → r ≡ values_are l list v → r ≡ answer_is at list m v
-unfolding answer_is
-same_answer at list m v a b d e f g h = rw (eq-eqb (get_or list at 0) m (sym a ∙ b), eq-eqb (get_or list (after at 1) 0) (get_or v 0 0) (ap (λ (i : ℕ). get_or list i 0) (sym d) ∙ sym e ∙ f), h, g)
-
 -- ---- the front of a buffer as it is lent
 
 pub lent-front : (m n x : ℕ) {d : List ℕ} → d ≡ replicate m x → n ≤ m → n ≡ length (take n d)
@@ -103,40 +78,46 @@ lent-front m n x {d} e h =
     let l : length d ≡ m = ap length e ∙ length-replicate m x in
     simp length-take (omega arith)
 
--- ---- numbers read at a cursor, and what else stands of a buffer and of values
+-- ---- numbers by what stands from a position on
 
-pub pair_is : (at : ℕ) (o : Option ℕ) {n : ℕ} {k : Cursor} → Pair.Is n k ≡ pair_of at o → n ≡ Option.get_or o 0
-pair_is at none e = let z : ◌≡◌ {A = ℕ} 0 1 = cc in absurd (omega arith)
-pair_is at (some x) e = cc
+pub no-number : (n at : ℕ) (s : List ℕ) {r : List ℕ} → r ≡ drop at s → length r < n → 0 ≡ number_from n at s
+no-number n at s e h =
+    let short : length s < at + n = omega (arith, ap length e, length-drop at s) in
+    rw number_short
 
-pub pair-short : (at : ℕ) (o : Option ℕ) → Pair.Short ≡ pair_of at o → 0 ≡ Option.get_or o 0
-pair-short at none e = refl
-pair-short at (some x) e = let z : ◌≡◌ {A = ℕ} 0 1 = cc in absurd (omega arith)
+pub number-of-two : (at : ℕ) (s : List ℕ) {r : List ℕ} {m : ℕ} → r ≡ drop at s → 2 ≤ length r → m ≡ get_or r 0 0 * 256 + get_or r 1 0 → m ≡ number_from 2 at s
+number-of-two at s {r} {m} e h d =
+    let there : at + 2 ≤ length s = omega (arith, ap length e, length-drop at s) in
+    let a : m ≡ get_or s (at + 0) 0 * 256 + get_or s (at + 1) 0 = rw (e, get_or-drop at s 0 0, get_or-drop at s 1 0) at d in
+    rw (number-two, a, add-zero)
 
-pub four_is : (at : ℕ) (o : Option ℕ) {n : ℕ} {k : Cursor} → Four.Is n k ≡ four_of at o → n ≡ Option.get_or o 0
-four_is at none e = let z : ◌≡◌ {A = ℕ} 0 1 = cc in absurd (omega arith)
-four_is at (some x) e = cc
+pub number-of-four : (at : ℕ) (s : List ℕ) {r : List ℕ} {m : ℕ} → r ≡ drop at s → 4 ≤ length r
+    → m ≡ get_or r 0 0 * 16777216 + get_or r 1 0 * 65536 + get_or r 2 0 * 256 + get_or r 3 0 → m ≡ number_from 4 at s
+number-of-four at s {r} {m} e h d =
+    let there : at + 4 ≤ length s = omega (arith, ap length e, length-drop at s) in
+    let a : m ≡ get_or s (at + 0) 0 * 16777216 + get_or s (at + 1) 0 * 65536 + get_or s (at + 2) 0 * 256 + get_or s (at + 3) 0 = rw (e, get_or-drop at s 0 0, get_or-drop at s 1 0, get_or-drop at s 2 0, get_or-drop at s 3 0) at d in
+    rw (number-four, a, add-zero) (omega arith)
 
-pub four-short : (at : ℕ) (o : Option ℕ) → Four.Short ≡ four_of at o → 0 ≡ Option.get_or o 0
-four-short at none e = refl
-four-short at (some x) e = let z : ◌≡◌ {A = ℕ} 0 1 = cc in absurd (omega arith)
+-- ---- what a call of a closure at each number gave
 
--- all of them
-pub filled : (f : ℕ → ℕ) (d : List ℕ) (n i : ℕ) → length d ≡ n → i ≡ n → take i d ≡ first f i → d ≡ first f n
-filled f d n i l e q = sym (take_all i d (omega arith)) ∙ q ∙ ap (first f) e
-
-pub eight_is : (at : ℕ) (list : List ℕ) {h k l : ℕ} → h ≡ number_from 4 at list → k ≡ after at 4 → l ≡ number_from 4 k list → h * 4294967296 + l ≡ eight_from at list
-eight_is at list a b d = rw (a, d, b)
-
-pub values-are : (at : ℕ) (list v : List ℕ) {k₂ k₃ k₄ : ℕ} {a b d e r : Bool} → a ≡ value_is at list (ltb 0 (get_or v 0 0)) (get_or v 1 0) → k₂ ≡ after at 8 → b ≡ value_is k₂ list (ltb 1 (get_or v 0 0)) (get_or v 2 0) → k₃ ≡ after at 16 → d ≡ value_is k₃ list (ltb 2 (get_or v 0 0)) (get_or v 3 0) → k₄ ≡ after at 24 → e ≡ value_is k₄ list (ltb 3 (get_or v 0 0)) (get_or v 4 0) → r ≡ (a && (b && (d && e))) → r ≡ values_are at list v
-values-are at list v p k₂ q k₃ s k₄ t r = rw (r, p, q, s, t, k₂, k₃, k₄)
-
-length-first : (f : ℕ → ℕ) (n : ℕ) → length (first f n) ≡ n
+first-map : (f : ℕ → ℕ) (n : ℕ) → first f n ≡ map f (range_with_len 0 n)
 unfolding first
-length-first f zero = refl
-length-first f (suc n) = length-append (first f n) (f n ∷ []) ∙ ap (λ (k : ℕ). k + 1) (length-first f n) ∙ add-one n
+first-map f zero = refl
+first-map f (suc n) =
+    let e : n + 1 ≡ suc n = omega arith in
+    ap (λ (t : List ℕ). t ++ (f n ∷ [])) (first-map f n) ∙ sym (map-range_with_len_more f 0 n n (omega arith)) ∙ ap (λ (k : ℕ). map f (range_with_len 0 k)) e
 
-pub filled-front : (f : ℕ → ℕ) (m n : ℕ) {d : List ℕ} → d ≡ first f m → n ≤ m → n ≡ length (take n d)
-filled-front f m n {d} e h =
-    let l : length d ≡ m = ap length e ∙ length-first f m in
-    simp length-take (omega arith)
+module _ {F : Type 0} (g : Mut F (ℕ × Unit {0}) ℕ) (f : F) (h : ℕ → ℕ) (answers : (i y : ℕ) (q : F) → Called g f (i, tt) y q → (q ≡ f) × (y ≡ h i)) where
+  each-given : (n a : ℕ) (ys : List ℕ) → IsFromFnResultFrom g f ys a n → (k : ℕ) → k < n → get_or ys (a + k) 0 ≡ h (a + k)
+  each-given zero a ys e k l = absurd (omega arith)
+  each-given (suc n) a ys (q, y, at, call, more) zero l = rw add-zero (at.1 0 ∙ (answers a y q call).1)
+  each-given (suc n) a ys (q, y, at, call, more) (suc k) l =
+      let e : a + 1 + k ≡ a + suc k = omega arith in
+      let rest : IsFromFnResultFrom g f ys (a + 1) n = subst (λ (t : F). IsFromFnResultFrom g t ys (a + 1) n) (answers a y q call).0 more in
+      subst (λ (i : ℕ). get_or ys i 0 ≡ h i) e (each-given n (a + 1) ys rest k (omega arith))
+
+  pub given : (n : ℕ) (ys : List ℕ) → IsFromFnResult g f ys n → ys ≡ first h n
+  given n ys e =
+      let at : (k : ℕ) → k < n → get_or ys k 0 ≡ h k =
+      λ k l. let z : 0 + k ≡ k = omega arith in subst (λ (i : ℕ). get_or ys i 0 ≡ h i) z (each-given n 0 ys e.each k l) in
+      fill_by_all h ys n 0 e.long at ∙ sym (first-map h n)

@@ -2,3 +2,4 @@
 pub mod Format
 pub mod Answer
 pub mod Lent
+pub mod Runs

@@ -14,10 +14,7 @@ fn raise(counts: &mut [u32], k: usize)
     ensures { counts.new ≡ raised k counts.old }
 {
     if k < counts.len() {
-        let x = counts[k];
-        if x < 4_294_967_295 {
-            counts[k] = x + 1;
-        }
+        counts[k] = counts[k].saturating_add(1);
     }
 }
 
@@ -29,7 +26,7 @@ fn print_count<R: Print>(rt: &R, text: &str, n: u32) -> Result<()> {
 pub fn report<R: Print>(rt: &R, counts: &mut [u32], number: u8, is_same: bool, k: u32) -> Result<()>
     ensures { counts.new ≡ pick is_same (raised 256 (raised number counts.old)) (raised number counts.old) }
 {
-    raise(counts, number as usize);
+    raise(counts, usize::from(number));
     if is_same {
         raise(counts, SAME);
         return Ok(());
@@ -46,8 +43,8 @@ fn print_refusal<R: Print>(rt: &R, k: usize, n: u32) -> Result<()> {
 }
 
 fn print_refusals<R: Print>(rt: &R, counts: &[u32]) -> Result<()> {
-    for k in 1..SAME {
-        print_refusal(rt, k, cell(counts, k))?;
+    for (k, n) in counts.iter().enumerate().take(SAME).skip(1) {
+        print_refusal(rt, k, *n)?;
     }
     Ok(())
 }

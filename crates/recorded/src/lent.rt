@@ -1,84 +1,16 @@
 // Numbers and strings of a recorded list in lent buffers: taken there, and whether a buffer holds them.
-ghost use Rattle.std.specs.Prelude.{◌≡◌, leb, length, get_or, replicate};
+ghost use Rattle.std.specs.Prelude.{◌≡◌, leb, ltb, replicate};
 ghost use Rattle.definitions.specs.Basic.{pick};
 ghost use Rattle.recorded.specs.Format.{number_from, number_in, string_length, octet_in, first};
 ghost use Rattle.recorded.specs.Lent.{lent_octet, lent_number, octets_are, numbers_are};
 
-use crate::{after, four, octet, repeat_at, string_len, two};
+use crate::Position;
+use std::array;
 
 // What all lent memory holds before a case.
 const LENT: u8 = 0xa5;
 
 pub const LENT_NUMBER: u32 = 0xa5a5_a5a5;
-
-// Numbers into a buffer, as many as it has room for.
-fn get_numbers(list: &[u8], at: usize, out: &mut [u32])
-    ensures { out.new ≡ first (number_in at list.now) (length out.old) }
-{
-    let mut p = after(at, 2);
-    let mut i = 0;
-    while i < out.len() {
-        out[i] = four(list, p);
-        p = after(p, 4);
-        i += 1;
-    }
-}
-
-// Whether a buffer of 256 numbers has room for the numbers of a case, and one of 70,000 octets for a string.
-pub fn numbers_fit(list: &[u8], at: usize) -> bool
-    ensures { result ≡ leb (number_from 2 at list.now) 256 }
-{
-    two(list, at) <= 256
-}
-
-pub fn string_fits(list: &[u8], at: usize) -> bool
-    ensures { result ≡ leb (string_length at list.now) 70000 }
-{
-    string_len(list, at) <= 70000
-}
-
-// Numbers that a case has, in a buffer of their own.
-pub fn numbers_at(list: &[u8], at: usize) -> [u32; 256]
-    ensures { result ≡ first (number_in at list.now) 256 }
-{
-    let mut out = [0u32; 256];
-    get_numbers(list, at, &mut out);
-    out
-}
-
-// The octet there, or another one.
-fn octet_or(list: &[u8], at: usize, is_there: bool, x: u8) -> u8
-    ensures { result ≡ pick is_there (get_or list.now at 0) x }
-{
-    if is_there {
-        return octet(list, at);
-    }
-    x
-}
-
-// A string into a buffer, and the octet that it ends with to the end of the buffer.
-fn get_string(list: &[u8], at: usize, out: &mut [u8])
-    ensures { out.new ≡ first (octet_in at list.now) (length out.old) }
-{
-    let n = two(list, at);
-    let x = octet(list, after(repeat_at(list, at), 2));
-    let mut p = after(at, 2);
-    let mut i = 0;
-    while i < out.len() {
-        out[i] = octet_or(list, p, i < n, x);
-        p = after(p, 1);
-        i += 1;
-    }
-}
-
-// A string that a case has, in a buffer of its own.
-pub fn string_at(list: &[u8], at: usize) -> [u8; 70000]
-    ensures { result ≡ first (octet_in at list.now) 70000 }
-{
-    let mut out = [0u8; 70000];
-    get_string(list, at, &mut out);
-    out
-}
 
 // Buffers as they are lent.
 pub fn lent_octets() -> [u8; 70000]
@@ -93,59 +25,90 @@ pub fn lent_numbers() -> [u32; 256]
     [LENT_NUMBER; 256]
 }
 
-// Whether a buffer holds a string, and what it held before behind it.
-pub fn output_is(list: &[u8], at: usize, output: &[u8]) -> bool
-    ensures { result ≡ octets_are at list.now output.now }
-{
-    let n = two(list, at);
-    let len = string_len(list, at);
-    let x = octet(list, after(repeat_at(list, at), 2));
-    let mut p = after(at, 2);
-    let mut i = 0;
-    while i < output.len() {
-        let y = octet_or(list, p, i < n, x);
-        if output[i] != lent_or(i < len, y) {
-            return false;
+impl Position<'_> {
+    // Whether a buffer of 256 numbers has room for the numbers of a case, and one of 70,000 octets for a string.
+    pub fn numbers_fit(self) -> bool
+        ensures { result ≡ leb (number_from 2 self.entry.at self.entry.list.now) 256 }
+    {
+        self.two() <= 256
+    }
+
+    pub fn string_fits(self) -> bool
+        ensures { result ≡ leb (string_length self.entry.at self.entry.list.now) 70000 }
+    {
+        self.string_len() <= 70000
+    }
+
+    // The number i of the numbers there.
+    fn number_in(self, i: usize) -> u32
+        ensures { result ≡ number_in self.entry.at self.entry.list.now i }
+    {
+        self.after(i.saturating_mul(4).saturating_add(2)).four()
+    }
+
+    // The number i of n numbers there, or what was lent.
+    fn number_or_lent(self, i: usize, n: usize) -> u32
+        ensures { result ≡ pick (ltb i n) (number_in self.entry.at self.entry.list.now i) lent_number }
+    {
+        if i < n {
+            self.number_in(i)
+        } else {
+            LENT_NUMBER
         }
-        p = after(p, 1);
-        i += 1;
     }
-    len <= output.len()
-}
 
-// What was lent, or an octet in its place.
-fn lent_or(is_there: bool, x: u8) -> u8
-    ensures { result ≡ pick is_there x lent_octet }
-{
-    if is_there {
-        return x;
+    // Numbers that a case has, in a buffer of their own: an array, since nothing here takes memory from a heap.
+    pub fn numbers(self) -> [u32; 256]
+        ensures { result ≡ first (number_in self.entry.at self.entry.list.now) 256 }
+    {
+        array::from_fn(|i| self.number_in(i))
     }
-    LENT
-}
 
-// The number there, or what was lent.
-fn number_or_lent(list: &[u8], at: usize, is_there: bool) -> u32
-    ensures { result ≡ pick is_there (number_from 4 at list.now) lent_number }
-{
-    if is_there {
-        return four(list, at);
-    }
-    LENT_NUMBER
-}
-
-// Whether a buffer holds numbers, and what it held before behind them.
-pub fn numbers_are(list: &[u8], at: usize, s: &[u32]) -> bool
-    ensures { result ≡ numbers_are at list.now s.now }
-{
-    let n = two(list, at);
-    let mut p = after(at, 2);
-    let mut i = 0;
-    while i < s.len() {
-        if s[i] != number_or_lent(list, p, i < n) {
-            return false;
+    // The octet i of the string there: one that stands there, or the one that follows them.
+    fn octet_in(self, i: usize) -> u8
+        ensures { result ≡ octet_in self.entry.at self.entry.list.now i }
+    {
+        if i < self.two() {
+            self.after(i.saturating_add(2)).octet()
+        } else {
+            self.repeat_at().after(2).octet()
         }
-        p = after(p, 4);
-        i += 1;
     }
-    n <= s.len()
+
+    // The octet i of a string of n octets, or what was lent.
+    fn octet_or_lent(self, i: usize, n: usize) -> u8
+        ensures { result ≡ pick (ltb i n) (octet_in self.entry.at self.entry.list.now i) lent_octet }
+    {
+        if i < n { self.octet_in(i) } else { LENT }
+    }
+
+    // A string that a case has, in a buffer of its own.
+    pub fn string(self) -> [u8; 70000]
+        ensures { result ≡ first (octet_in self.entry.at self.entry.list.now) 70000 }
+    {
+        array::from_fn(|i| self.octet_in(i))
+    }
+
+    // Whether a buffer holds a string, and what it held before behind it.
+    pub fn output_is(self, output: &[u8]) -> bool
+        ensures { result ≡ octets_are self.entry.at self.entry.list.now output.now }
+    {
+        let n = self.string_len();
+        output
+            .iter()
+            .enumerate()
+            .all(|(i, x)| *x == self.octet_or_lent(i, n))
+            && n <= output.len()
+    }
+
+    // Whether a buffer holds numbers, and what it held before behind them.
+    pub fn numbers_are(self, s: &[u32]) -> bool
+        ensures { result ≡ numbers_are self.entry.at self.entry.list.now s.now }
+    {
+        let n = self.two();
+        s.iter()
+            .enumerate()
+            .all(|(i, x)| *x == self.number_or_lent(i, n))
+            && n <= s.len()
+    }
 }

@@ -2,17 +2,17 @@
 // Behind the end of a list there are zeros. crates/replay/README.md has the format.
 #![tactic(auto)]
 
-ghost use Rattle.std.specs.Prelude.{◌≡◌, ◌+◌, ◌*◌, ◌≤◌, length, get_or, take, replicate};
-ghost use Rattle.recorded.specs.Format.{after, number_from, repeat_at, string_end, string_length};
+ghost use Rattle.std.specs.Prelude.{◌≡◌, ◌+◌, ◌*◌, ◌≤◌, length, get_or, take, drop, replicate};
+ghost use Rattle.recorded.specs.Format.{after as after-of, number_from, repeat_at, string_end, string_length};
 
 pub mod answer;
 pub mod counts;
 pub mod lent;
+pub mod runs;
 
 // What a case has in place of a table number where its table is lent.
 pub const LENT_TABLE: u8 = 255;
 
-use octets::{Cursor, Four, Pair};
 use std::io::Read;
 
 // A buffer for a whole list.
@@ -45,113 +45,130 @@ pub fn read_list<R: Read>(from: &mut R, list: &mut [u8]) -> usize
     len
 }
 
-pub fn octet(list: &[u8], at: usize) -> u8
-    ensures { result ≡ get_or list.now at 0 }
-{
-    if at < list.len() {
-        return list[at];
-    }
-    0
-}
-
-// A number of two or four octets; 0 where there are fewer.
-pub fn two(list: &[u8], at: usize) -> usize
-    ensures { (result ≡ number_from 2 at list.now) × (result ≤ 65535) }
-{
-    let cursor = Cursor { at: at };
-    match cursor.get_u16(list) {
-        Pair::Is(x, _) => x as usize,
-        Pair::Short => 0,
-    }
-}
-
-pub fn four(list: &[u8], at: usize) -> u32
-    ensures { result ≡ number_from 4 at list.now }
-{
-    let cursor = Cursor { at: at };
-    match cursor.get_u32(list) {
-        Four::Is(x, _) => x,
-        Four::Short => 0,
-    }
-}
-
-pub fn number(list: &[u8], at: usize) -> usize
-    ensures { result ≡ number_from 4 at list.now }
-{
-    four(list, at) as usize
-}
-
 // So many octets on, at most at the greatest position.
 pub fn after(at: usize, n: usize) -> usize
-    ensures { result ≡ after at n }
+    ensures { result ≡ after-of at n }
 {
-    if n > 18_446_744_073_709_551_615 - at {
-        return 18_446_744_073_709_551_615;
+    at.saturating_add(n)
+}
+
+// A position in a list.
+#[derive(Clone, Copy)]
+pub struct Position<'a> {
+    pub list: &'a [u8],
+    pub at: usize,
+}
+
+impl<'a> Position<'a> {
+    // What stands from there on.
+    fn rest(self) -> &'a [u8]
+        ensures { result.now ≡ drop self.entry.at self.entry.list.now }
+    {
+        self.list.get(self.at..).unwrap_or(&[])
     }
-    at + n
-}
 
-// Numbers: how many, and so many.
-pub fn numbers_end(list: &[u8], at: usize) -> usize
-    ensures { result ≡ after at (2 + 4 * number_from 2 at list.now) }
-{
-    after(at, 2 + 4 * two(list, at))
-}
+    pub fn octet(self) -> u8
+        ensures { result ≡ get_or self.entry.list.now self.entry.at 0 }
+    {
+        self.list.get(self.at).copied().unwrap_or(0)
+    }
 
-// A string: the octets that stand there, and the octet that follows so many times.
-fn repeat_at(list: &[u8], at: usize) -> usize
-    ensures { result ≡ repeat_at at list.now }
-{
-    after(at, 2 + two(list, at))
-}
+    // A number of two or four octets; 0 where there are fewer.
+    pub fn two(self) -> usize
+        ensures { (result ≡ number_from 2 self.entry.at self.entry.list.now) × (result ≤ 65535) }
+    {
+        let [high, low, ..] = self.rest() else {
+            return 0;
+        };
+        usize::from(u16::from_be_bytes([*high, *low]))
+    }
 
-pub fn string_end(list: &[u8], at: usize) -> usize
-    ensures { result ≡ string_end at list.now }
-{
-    after(repeat_at(list, at), 3)
-}
+    pub fn four(self) -> u32
+        ensures { result ≡ number_from 4 self.entry.at self.entry.list.now }
+    {
+        let [a, b, c, d, ..] = self.rest() else {
+            return 0;
+        };
+        u32::from_be_bytes([*a, *b, *c, *d])
+    }
 
-pub fn string_len(list: &[u8], at: usize) -> usize
-    ensures { result ≡ string_length at list.now }
-{
-    two(list, at) + two(list, repeat_at(list, at))
-}
+    pub fn number(self) -> usize
+        ensures { result ≡ number_from 4 self.entry.at self.entry.list.now }
+    {
+        self.four() as usize
+    }
 
-// A string, and in four octets how many of its octets are used.
-pub fn used_end(list: &[u8], at: usize) -> usize
-    ensures { result ≡ after (string_end at list.now) 4 }
-{
-    after(string_end(list, at), 4)
-}
+    pub fn after(self, n: usize) -> Position<'a>
+        ensures list { result.list.now ≡ self.entry.list.now }
+        ensures at { result.at ≡ after-of self.entry.at n }
+    {
+        Position {
+            list: self.list,
+            at: after(self.at, n),
+        }
+    }
 
-pub fn used(list: &[u8], at: usize) -> usize
-    ensures { result ≡ number_from 4 (string_end at list.now) list.now }
-{
-    number(list, string_end(list, at))
-}
+    // Numbers: how many, and so many.
+    pub fn numbers_end(self) -> Position<'a>
+        ensures list { result.list.now ≡ self.entry.list.now }
+        ensures at { result.at ≡ after-of self.entry.at (2 + 4 * number_from 2 self.entry.at self.entry.list.now) }
+    {
+        self.after(2 + 4 * self.two())
+    }
 
-// An answer: its number, how many values, and so many of eight octets.
-pub fn answer_end(list: &[u8], at: usize) -> usize
-    ensures { result ≡ after at (2 + 8 * get_or list.now (after at 1) 0) }
-{
-    after(at, 2 + 8 * (octet(list, after(at, 1)) as usize))
+    // A string: the octets that stand there, and the octet that follows so many times.
+    fn repeat_at(self) -> Position<'a>
+        ensures list { result.list.now ≡ self.entry.list.now }
+        ensures at { result.at ≡ repeat_at self.entry.at self.entry.list.now }
+    {
+        self.after(2 + self.two())
+    }
+
+    pub fn string_end(self) -> Position<'a>
+        ensures list { result.list.now ≡ self.entry.list.now }
+        ensures at { result.at ≡ string_end self.entry.at self.entry.list.now }
+    {
+        self.repeat_at().after(3)
+    }
+
+    pub fn string_len(self) -> usize
+        ensures { result ≡ string_length self.entry.at self.entry.list.now }
+    {
+        self.two() + self.repeat_at().two()
+    }
+
+    // A string, and in four octets how many of its octets are used.
+    pub fn used_end(self) -> Position<'a>
+        ensures list { result.list.now ≡ self.entry.list.now }
+        ensures at { result.at ≡ after-of (string_end self.entry.at self.entry.list.now) 4 }
+    {
+        self.string_end().after(4)
+    }
+
+    pub fn used(self) -> usize
+        ensures { result ≡ number_from 4 (string_end self.entry.at self.entry.list.now) self.entry.list.now }
+    {
+        self.string_end().number()
+    }
+
+    // An answer: its number, how many values, and so many of eight octets.
+    pub fn answer_end(self) -> Position<'a>
+        ensures list { result.list.now ≡ self.entry.list.now }
+        ensures at { result.at ≡ after-of self.entry.at (2 + 8 * get_or self.entry.list.now (after-of self.entry.at 1) 0) }
+    {
+        self.after(2 + 8 * self.after(1).octet() as usize)
+    }
 }
 
 pub fn cell(s: &[u32], at: usize) -> u32
     ensures { result ≡ get_or s.now at 0 }
 {
-    if at < s.len() {
-        return s[at];
-    }
-    0
+    s.get(at).copied().unwrap_or(0)
 }
 
-// The first n numbers, or all where there are fewer.
-pub fn front(s: &[u32], n: usize) -> &[u32]
+// The first n of a buffer, or all where there are fewer.
+pub fn front<T>(s: &[T], n: usize) -> &[T]
     ensures { result.now ≡ take n s.now }
 {
-    if n > s.len() {
-        return s;
-    }
-    &s[..n]
+    s.get(..n).unwrap_or(s)
 }

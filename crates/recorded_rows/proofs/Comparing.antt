@@ -3,12 +3,12 @@
 use Prim.Native.Nat.{ℕ, suc, ◌+◌, ◌-◌, ◌≤◌, ◌<◌}
 use native.Mathlib.Omega.{arith}
 use native.Mathlib.Numerals.{add-one}
-use mathlib.Core.Path.{◌≡◌, ap, ◌∙◌}
-use mathlib.Core.List.{List}
-use mathlib.Core.Bool.{Bool, true, false, ◌&&◌, and-false}
+use mathlib.Core.Path.{◌≡◌, refl, ap, ◌∙◌}
+use Rattle.std.specs.List.{list_all}
+use mathlib.Core.List.{List, [], ◌∷◌}
+use mathlib.Core.Bool.{Bool, true, false, ◌&&◌}
 use borrow.Author.Tests.{eq-eqb, ne_eqb, lt-ltb, le-ltb}
-use lib.ListN.{length, get_or, drop, drop_of_length-le}
-use lib.Seq.{drop-cons}
+use lib.ListN.{get_or, drop}
 use lib.Dec.{eqb}
 use Rattle.definitions.specs.Basic.{pick}
 use Rattle.recorded.specs.Format.{after, number_from}
@@ -17,39 +17,10 @@ use Rattle.recorded_rows.specs.Places.{all_are, row_is, place_is, next_is, behin
 
 -- ---- numbers from a position on
 
-module _ (x : ℕ) (s : List ℕ) (i : ℕ) where
-  all-next : i < length s → all_are x (drop i s) ≡ (eqb (get_or s i 0) x && all_are x (drop (i + 1) s))
-  unfolding all_are
-  all-next h = ap (all_are x) (drop-cons s i 0 h) ∙ rw (add-one i)
-
-  pub all-not : i < length s → (get_or s i 0 ≡ x → ⊥) → all_are x (drop i s) ≡ false
-  all-not h n = all-next h ∙ rw (ne_eqb (get_or s i 0) x n)
-
-  pub all-on : i < length s → get_or s i 0 ≡ x → all_are x (drop i s) ≡ all_are x (drop (i + 1) s)
-  all-on h e = all-next h ∙ rw (eq-eqb (get_or s i 0) x e)
-
-  pub all-over : length s ≤ i → all_are x (drop i s) ≡ true
-  unfolding all_are
-  all-over h = ap (all_are x) (drop_of_length-le s h)
-
--- ---- a row
-
-module _ (rows : List ℕ) (at source start size iei : ℕ) where
-  pub row-source : (get_or rows at 0 ≡ source → ⊥) → row_is rows at source start size iei ≡ false
-  unfolding row_is
-  row-source n = rw (ne_eqb (get_or rows at 0) source n)
-
-  pub row-start : (get_or rows (after at 1) 0 ≡ start → ⊥) → row_is rows at source start size iei ≡ false
-  unfolding row_is
-  row-start n = rw (ne_eqb (get_or rows (after at 1) 0) start n) (and-false (eqb (get_or rows at 0) source))
-
-  pub row-size : (get_or rows (after at 2) 0 ≡ size → ⊥) → row_is rows at source start size iei ≡ false
-  unfolding row_is
-  row-size n = rw (ne_eqb (get_or rows (after at 2) 0) size n, and-false (eqb (get_or rows (after at 1) 0) start)) (and-false (eqb (get_or rows at 0) source))
-
-  pub row-iei : get_or rows at 0 ≡ source → get_or rows (after at 1) 0 ≡ start → get_or rows (after at 2) 0 ≡ size → row_is rows at source start size iei ≡ eqb (get_or rows (after at 3) 0) iei
-  unfolding row_is
-  row-iei a b c = rw (eq-eqb (get_or rows at 0) source a, eq-eqb (get_or rows (after at 1) 0) start b, eq-eqb (get_or rows (after at 2) 0) size c)
+pub all-same : (x : ℕ) (s : List ℕ) → list_all (λ y. eqb y x) s ≡ all_are x s
+unfolding all_are
+all-same x [] = refl
+all-same x (y ∷ s) = ap (λ (b : Bool). eqb y x && b) (all-same x s)
 
 -- ---- places
 

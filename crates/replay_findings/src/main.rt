@@ -2,113 +2,103 @@
 // recorded ones in number, value and all lent output, and each case that is not. README.md has the format.
 #![tactic(auto)]
 
-use findings::{Found, optional_ie_order_findings};
-use octets::part;
+use findings::{FindError, optional_ie_order_findings};
 use part_answers::found_said;
-use recorded::answer::answer_is;
-use recorded::counts::{print_counts, report};
-use recorded::lent::{lent_numbers, numbers_are, numbers_at, numbers_fit, string_at, string_fits};
-use recorded::{
-    after, answer_end, four, front, list_buffer, numbers_end, octet, read_list, string_len, two,
-    used, used_end,
-};
+use recorded::lent::lent_numbers;
+use recorded::runs::{Ran, RunCase, run_input};
+use recorded::{Position, front};
 use std::io::Result;
 
 // A case of the list: where its parts stand.
 #[derive(Clone, Copy)]
-struct Case {
-    table_at: usize,
-    kept_at: usize,
-    order_at: usize,
-    room_at: usize,
-    said_at: usize,
-    found_at: usize,
-    end: usize,
+struct Case<'a> {
+    table_at: Position<'a>,
+    kept_at: Position<'a>,
+    order_at: Position<'a>,
+    room_at: Position<'a>,
+    said_at: Position<'a>,
+    found_at: Position<'a>,
+    end: Position<'a>,
 }
 
-fn case_at(list: &[u8], at: usize) -> Case {
-    let table_at = after(at, 2);
-    let kept_at = numbers_end(list, table_at);
-    let order_at = used_end(list, kept_at);
-    let room_at = used_end(list, order_at);
-    let said_at = after(room_at, 2);
-    let found_at = answer_end(list, said_at);
+fn case_at(at: Position) -> Case {
+    let table_at = at.after(2);
+    let kept_at = table_at.numbers_end();
+    let order_at = kept_at.used_end();
+    let room_at = order_at.used_end();
+    let said_at = room_at.after(2);
+    let found_at = said_at.answer_end();
     Case {
-        table_at: table_at,
-        kept_at: kept_at,
-        order_at: order_at,
-        room_at: room_at,
-        said_at: said_at,
-        found_at: found_at,
-        end: numbers_end(list, found_at),
+        table_at,
+        kept_at,
+        order_at,
+        room_at,
+        said_at,
+        found_at,
+        end: found_at.numbers_end(),
     }
 }
 
-fn fits(list: &[u8], c: Case) -> bool {
-    numbers_fit(list, c.table_at) && string_fits(list, c.kept_at) && string_fits(list, c.order_at)
-}
-
-// Whether the number, its value and the findings are the recorded ones.
-fn found_is(list: &[u8], c: Case, found: Found, n: usize, findings: &[u32; 256]) -> bool {
-    let mut values = [0u64; 5];
-    let number = found_said(found, &mut values);
-    answer_is(list, c.said_at, number, &values) && numbers_are(list, c.found_at, front(findings, n))
-}
-
-fn run_logs(list: &[u8], c: Case, table: &[u32], kept: &[u8], order: &[u8]) -> bool {
-    let n = two(list, c.room_at);
-    if n > 256 {
-        return false;
+impl Case<'_> {
+    fn fits(&self) -> bool {
+        self.table_at.numbers_fit() && self.kept_at.string_fits() && self.order_at.string_fits()
     }
-    let mut findings = lent_numbers();
-    let found = optional_ie_order_findings(
-        table,
-        kept,
-        used(list, c.kept_at),
-        order,
-        used(list, c.order_at),
-        &mut findings[..n],
-    );
-    found_is(list, c, found, n, &findings)
-}
 
-// A case in what there is room for; one that asks for more is not the recorded one.
-fn run_case(list: &[u8], c: Case) -> bool {
-    if !fits(list, c) {
-        return false;
+    // Whether the number, its value and the findings are the recorded ones.
+    fn found_is(&self, found: std::result::Result<usize, FindError>, findings: &[u32]) -> bool {
+        let mut values = [0u64; 5];
+        let number = found_said(found, &mut values);
+        self.said_at.answer_is(number, &values) && self.found_at.numbers_are(findings)
     }
-    let table = numbers_at(list, c.table_at);
-    let kept = string_at(list, c.kept_at);
-    let order = string_at(list, c.order_at);
-    run_logs(
-        list,
-        c,
-        front(&table, two(list, c.table_at)),
-        part(&kept, 0, string_len(list, c.kept_at)),
-        part(&order, 0, string_len(list, c.order_at)),
-    )
-}
 
-// All cases.
-fn run_list<R: Print>(rt: &R, list: &[u8], counts: &mut [u32]) -> Result<usize> {
-    let n = four(list, 0);
-    let mut at = 4;
-    for k in 0..n {
-        let c = case_at(list, at);
-        report(rt, counts, octet(list, c.said_at), run_case(list, c), k)?;
-        at = c.end;
+    fn is_same_by(&self, table: &[u32], kept: &[u8], order: &[u8]) -> bool {
+        let n = self.room_at.two();
+        if n > 256 {
+            return false;
+        }
+        let mut findings = lent_numbers();
+        let found = optional_ie_order_findings(
+            table,
+            kept,
+            self.kept_at.used(),
+            order,
+            self.order_at.used(),
+            &mut findings[..n],
+        );
+        self.found_is(found, front(&findings, n))
     }
-    Ok(at)
+
+    // A case in what there is room for; one that asks for more is not the recorded one.
+    fn is_same(&self) -> bool {
+        if !self.fits() {
+            return false;
+        }
+        let table = self.table_at.numbers();
+        let kept = self.kept_at.string();
+        let order = self.order_at.string();
+        self.is_same_by(
+            front(&table, self.table_at.two()),
+            front(&kept, self.kept_at.string_len()),
+            front(&order, self.order_at.string_len()),
+        )
+    }
 }
 
-fn run_all<R: Print>(rt: &R, list: &[u8]) -> Result<()> {
-    let mut counts = [0u32; 257];
-    let end = run_list(rt, list, &mut counts)?;
-    print_counts(rt, four(list, 0), &counts, end == list.len())
+struct Cases;
+
+impl RunCase for Cases {
+    ghost gives = { λ _ _. Unit };
+
+    fn run_case<'a>(at: Position<'a>) -> Ran<'a> {
+        let case = case_at(at);
+        Ran {
+            number: case.said_at.octet(),
+            is_same: case.is_same(),
+            end: case.end,
+        }
+    }
 }
 
 fn main(rt: HostRuntime) -> Result<()> {
-    let mut list = list_buffer();
-    let n = read_list(&mut rt.stdin(), &mut list);
-    run_all(&rt, part(&list, 0, n))
+    run_input::<_, _, Cases>(&rt, &mut rt.stdin())
 }

@@ -5,153 +5,126 @@
 use mandatory::by::decode_mandatory_ies_by;
 use mandatory::decode::{MandatoryRead, decode_mandatory_ies};
 use mandatory::notes::{Note, Notes};
-use octets::part;
 use part_answers::mandated_said;
-use recorded::answer::answer_is;
-use recorded::counts::{print_counts, report};
-use recorded::lent::{lent_numbers, numbers_are, numbers_at, numbers_fit, string_at, string_fits};
-use recorded::{
-    LENT_TABLE, after, answer_end, four, front, list_buffer, numbers_end, octet, read_list,
-    string_end, string_len, two,
-};
+use recorded::lent::lent_numbers;
+use recorded::runs::{Ran, RunCase, run_input};
+use recorded::{LENT_TABLE, Position, front};
 use std::io::Result;
-
-// Notes that there is room for in an answer.
-const NOTES: usize = 32;
 
 // A case of the list: by which table, lenient or not, and where its parts stand.
 #[derive(Clone, Copy)]
-struct Case {
+struct Case<'a> {
     number: u8,
     lenient: bool,
-    table_at: usize,
-    room_at: usize,
-    part_at: usize,
-    said_at: usize,
-    rows_at: usize,
-    notes_at: usize,
-    end: usize,
+    table_at: Position<'a>,
+    room_at: Position<'a>,
+    part_at: Position<'a>,
+    said_at: Position<'a>,
+    rows_at: Position<'a>,
+    notes_at: Position<'a>,
+    end: Position<'a>,
 }
 
-fn case_at(list: &[u8], at: usize) -> Case {
-    let table_at = after(at, 2);
-    let lenient_at = numbers_end(list, table_at);
-    let room_at = after(lenient_at, 1);
-    let part_at = after(room_at, 2);
-    let said_at = string_end(list, part_at);
-    let rows_at = answer_end(list, said_at);
-    let notes_at = numbers_end(list, rows_at);
+fn case_at(at: Position) -> Case {
+    let table_at = at.after(2);
+    let lenient_at = table_at.numbers_end();
+    let room_at = lenient_at.after(1);
+    let part_at = room_at.after(2);
+    let said_at = part_at.string_end();
+    let rows_at = said_at.answer_end();
+    let notes_at = rows_at.numbers_end();
     Case {
-        number: octet(list, after(at, 1)),
-        lenient: octet(list, lenient_at) != 0,
-        table_at: table_at,
-        room_at: room_at,
-        part_at: part_at,
-        said_at: said_at,
-        rows_at: rows_at,
-        notes_at: notes_at,
-        end: numbers_end(list, notes_at),
+        number: at.after(1).octet(),
+        lenient: lenient_at.octet() != 0,
+        table_at,
+        room_at,
+        part_at,
+        said_at,
+        rows_at,
+        notes_at,
+        end: notes_at.numbers_end(),
     }
-}
-
-fn note_at(notes: Notes, i: usize) -> Note {
-    if i < NOTES {
-        return notes.notes[i];
-    }
-    Note { row: 0, number: 0 }
 }
 
 // Whether a note is the recorded one there, or zeros behind them.
-fn note_is(list: &[u8], at: usize, is_recorded: bool, note: Note) -> bool {
+fn note_is(at: Position, is_recorded: bool, note: Note) -> bool {
     if is_recorded {
-        return four(list, at) == note.row && four(list, after(at, 4)) == note.number;
+        return at.four() == note.row && at.after(4).four() == note.number;
     }
     note.row == 0 && note.number == 0
 }
 
 // Whether the notes are the recorded ones, two numbers each, and zeros behind them.
-fn notes_are(list: &[u8], at: usize, notes: Notes) -> bool {
-    let n = two(list, at) / 2;
-    let mut p = after(at, 2);
-    for i in 0..NOTES {
-        if !note_is(list, p, i < n, note_at(notes, i)) {
+fn notes_are(at: Position, notes: Notes) -> bool {
+    let n = at.two() / 2;
+    n == notes.count
+        && notes
+            .notes
+            .iter()
+            .enumerate()
+            .all(|(i, note)| note_is(at.after(2 + 8 * i), i < n, *note))
+}
+
+impl Case<'_> {
+    // By the table of the case, of exactly what it lends.
+    fn read(&self, table: &[u32], octets: &[u8], rows: &mut [u32]) -> MandatoryRead {
+        if self.number == LENT_TABLE {
+            return decode_mandatory_ies(octets, table, self.lenient, rows);
+        }
+        decode_mandatory_ies_by(u32::from(self.number), octets, self.lenient, rows)
+    }
+
+    // Whether the number and its values, of which one is how many notes there are, are the recorded ones.
+    fn said_is(&self, read: MandatoryRead) -> bool {
+        let mut values = [0u64; 5];
+        let mut notes = [0u32; 64];
+        let number = mandated_said(read, &mut notes, &mut values);
+        self.said_at.answer_is(number, &values)
+    }
+
+    fn read_is(&self, read: MandatoryRead, rows: &[u32]) -> bool {
+        self.said_is(read) && self.rows_at.numbers_are(rows) && notes_are(self.notes_at, read.notes)
+    }
+
+    fn is_same_by(&self, table: &[u32], octets: &[u8]) -> bool {
+        let n = self.room_at.two();
+        if n > 256 {
             return false;
         }
-        p = after(p, 8);
+        let mut rows = lent_numbers();
+        let read = self.read(table, octets, &mut rows[..n]);
+        self.read_is(read, front(&rows, n))
     }
-    n == notes.count
-}
 
-// By the table of the case, of exactly what it lends.
-fn read(c: Case, table: &[u32], octets: &[u8], rows: &mut [u32]) -> MandatoryRead {
-    if c.number == LENT_TABLE {
-        return decode_mandatory_ies(octets, table, c.lenient, rows);
+    // A case in what there is room for; one that asks for more is not the recorded one.
+    fn is_same(&self) -> bool {
+        if !self.table_at.numbers_fit() || !self.part_at.string_fits() {
+            return false;
+        }
+        let table = self.table_at.numbers();
+        let octets = self.part_at.string();
+        self.is_same_by(
+            front(&table, self.table_at.two()),
+            front(&octets, self.part_at.string_len()),
+        )
     }
-    decode_mandatory_ies_by(c.number as u32, octets, c.lenient, rows)
 }
 
-// Whether the number and its values, of which one is how many notes there are, are the recorded ones.
-fn said_is(list: &[u8], at: usize, read: MandatoryRead) -> bool {
-    let mut values = [0u64; 5];
-    let mut notes = [0u32; 64];
-    let number = mandated_said(read, &mut notes, &mut values);
-    answer_is(list, at, number, &values)
-}
+struct Cases;
 
-fn read_is(list: &[u8], c: Case, read: MandatoryRead, n: usize, rows: &[u32; 256]) -> bool {
-    said_is(list, c.said_at, read)
-        && numbers_are(list, c.rows_at, front(rows, n))
-        && notes_are(list, c.notes_at, read.notes)
-}
+impl RunCase for Cases {
+    ghost gives = { λ _ _. Unit };
 
-fn run_part(list: &[u8], c: Case, table: &[u32], octets: &[u8]) -> bool {
-    let n = two(list, c.room_at);
-    if n > 256 {
-        return false;
+    fn run_case<'a>(at: Position<'a>) -> Ran<'a> {
+        let case = case_at(at);
+        Ran {
+            number: case.said_at.octet(),
+            is_same: case.is_same(),
+            end: case.end,
+        }
     }
-    let mut rows = lent_numbers();
-    let read = read(c, table, octets, &mut rows[..n]);
-    read_is(list, c, read, n, &rows)
-}
-
-// A case in what there is room for; one that asks for more is not the recorded one.
-fn run_case(list: &[u8], c: Case) -> bool {
-    if !numbers_fit(list, c.table_at) {
-        return false;
-    }
-    if !string_fits(list, c.part_at) {
-        return false;
-    }
-    let table = numbers_at(list, c.table_at);
-    let octets = string_at(list, c.part_at);
-    run_part(
-        list,
-        c,
-        front(&table, two(list, c.table_at)),
-        part(&octets, 0, string_len(list, c.part_at)),
-    )
-}
-
-// All cases.
-fn run_list<R: Print>(rt: &R, list: &[u8], counts: &mut [u32]) -> Result<usize> {
-    let n = four(list, 0);
-    let mut at = 4;
-    for k in 0..n {
-        let c = case_at(list, at);
-        report(rt, counts, octet(list, c.said_at), run_case(list, c), k)?;
-        at = c.end;
-    }
-    Ok(at)
-}
-
-fn run_all<R: Print>(rt: &R, list: &[u8]) -> Result<()> {
-    let mut counts = [0u32; 257];
-    let end = run_list(rt, list, &mut counts)?;
-    print_counts(rt, four(list, 0), &counts, end == list.len())
 }
 
 fn main(rt: HostRuntime) -> Result<()> {
-    let mut list = list_buffer();
-    let n = read_list(&mut rt.stdin(), &mut list);
-    run_all(&rt, part(&list, 0, n))
+    run_input::<_, _, Cases>(&rt, &mut rt.stdin())
 }

@@ -4,167 +4,137 @@
 
 use answers::edited_said;
 use edits::{Edited, set_place};
-use octets::part;
-use recorded::answer::answer_is;
-use recorded::counts::{print_counts, report};
-use recorded::lent::{numbers_are, numbers_at, numbers_fit, output_is, string_at, string_fits};
-use recorded::{
-    after, answer_end, four, front, list_buffer, number, numbers_end, octet, read_list, string_end,
-    string_len, two, used, used_end,
-};
+use recorded::runs::{Ran, RunCase, run_input};
+use recorded::{Position, front};
 use std::io::Result;
 
 // A case of the list: where its parts stand, and the rows and set octets that it left.
 #[derive(Clone, Copy)]
-struct Case {
-    table_at: usize,
-    rows_at: usize,
-    received_at: usize,
-    set_at: usize,
-    place_at: usize,
-    value_at: usize,
-    order_at: usize,
-    said_at: usize,
-    rows_after_at: usize,
-    set_after_at: usize,
-    end: usize,
+struct Case<'a> {
+    table_at: Position<'a>,
+    rows_at: Position<'a>,
+    received_at: Position<'a>,
+    set_at: Position<'a>,
+    place_at: Position<'a>,
+    value_at: Position<'a>,
+    order_at: Position<'a>,
+    said_at: Position<'a>,
+    rows_after_at: Position<'a>,
+    set_after_at: Position<'a>,
+    end: Position<'a>,
 }
 
-fn case_at(list: &[u8], at: usize) -> Case {
-    let table_at = after(at, 2);
-    let rows_at = numbers_end(list, table_at);
-    let received_at = numbers_end(list, rows_at);
-    let set_at = string_end(list, received_at);
-    let place_at = used_end(list, set_at);
-    let value_at = after(place_at, 4);
-    let order_at = string_end(list, value_at);
-    let said_at = used_end(list, order_at);
-    let rows_after_at = answer_end(list, said_at);
-    let set_after_at = numbers_end(list, rows_after_at);
+// What a case lends to be read.
+#[derive(Clone, Copy)]
+struct Lent<'a> {
+    table: &'a [u32],
+    received: &'a [u8],
+    order: &'a [u8],
+    value: &'a [u8],
+}
+
+fn case_at(at: Position) -> Case {
+    let table_at = at.after(2);
+    let rows_at = table_at.numbers_end();
+    let received_at = rows_at.numbers_end();
+    let set_at = received_at.string_end();
+    let place_at = set_at.used_end();
+    let value_at = place_at.after(4);
+    let order_at = value_at.string_end();
+    let said_at = order_at.used_end();
+    let rows_after_at = said_at.answer_end();
+    let set_after_at = rows_after_at.numbers_end();
     Case {
-        table_at: table_at,
-        rows_at: rows_at,
-        received_at: received_at,
-        set_at: set_at,
-        place_at: place_at,
-        value_at: value_at,
-        order_at: order_at,
-        said_at: said_at,
-        rows_after_at: rows_after_at,
-        set_after_at: set_after_at,
-        end: string_end(list, set_after_at),
+        table_at,
+        rows_at,
+        received_at,
+        set_at,
+        place_at,
+        value_at,
+        order_at,
+        said_at,
+        rows_after_at,
+        set_after_at,
+        end: set_after_at.string_end(),
     }
 }
 
-fn fits(list: &[u8], c: Case) -> bool {
-    numbers_fit(list, c.table_at)
-        && string_fits(list, c.received_at)
-        && string_fits(list, c.order_at)
-        && string_fits(list, c.value_at)
-}
-
-// Whether the number, its value, the rows and the set octets are the recorded ones.
-fn edited_is(list: &[u8], c: Case, edited: Edited, rows: &[u32], set: &[u8]) -> bool {
-    let mut values = [0u64; 5];
-    let number = edited_said(edited, &mut values);
-    answer_is(list, c.said_at, number, &values)
-        && numbers_are(list, c.rows_after_at, rows)
-        && output_is(list, c.set_after_at, set)
-}
-
-fn set_value(
-    list: &[u8],
-    c: Case,
-    table: &[u32],
-    rows: &mut [u32],
-    received: &[u8],
-    set: &mut [u8],
-    order: &[u8],
-    value: &[u8],
-) -> bool {
-    let edited = set_place(
-        table,
-        rows,
-        received,
-        set,
-        used(list, c.set_at),
-        order,
-        used(list, c.order_at),
-        number(list, c.place_at),
-        value,
-    );
-    edited_is(list, c, edited, rows, set)
-}
-
-fn run_rows(
-    list: &[u8],
-    c: Case,
-    table: &[u32],
-    received: &[u8],
-    order: &[u8],
-    value: &[u8],
-) -> bool {
-    let places = two(list, c.rows_at);
-    let n = string_len(list, c.set_at);
-    if places > 256 {
-        return false;
+impl Case<'_> {
+    fn fits(&self) -> bool {
+        self.table_at.numbers_fit()
+            && self.received_at.string_fits()
+            && self.order_at.string_fits()
+            && self.value_at.string_fits()
     }
-    if n > 70000 {
-        return false;
+
+    // Whether the number, its value, the rows and the set octets are the recorded ones.
+    fn edited_is(&self, edited: Edited, rows: &[u32], set: &[u8]) -> bool {
+        let mut values = [0u64; 5];
+        let number = edited_said(edited, &mut values);
+        self.said_at.answer_is(number, &values)
+            && self.rows_after_at.numbers_are(rows)
+            && self.set_after_at.output_is(set)
     }
-    let mut rows = numbers_at(list, c.rows_at);
-    let mut set = string_at(list, c.set_at);
-    set_value(
-        list,
-        c,
-        table,
-        &mut rows[..places],
-        received,
-        &mut set[..n],
-        order,
-        value,
-    )
+
+    fn setting_is(&self, lent: Lent, rows: &mut [u32], set: &mut [u8]) -> bool {
+        let edited = set_place(
+            lent.table,
+            rows,
+            lent.received,
+            set,
+            self.set_at.used(),
+            lent.order,
+            self.order_at.used(),
+            self.place_at.number(),
+            lent.value,
+        );
+        self.edited_is(edited, rows, set)
+    }
+
+    fn is_same_by(&self, lent: Lent) -> bool {
+        let places = self.rows_at.two();
+        let n = self.set_at.string_len();
+        if places > 256 || n > 70000 {
+            return false;
+        }
+        let mut rows = self.rows_at.numbers();
+        let mut set = self.set_at.string();
+        self.setting_is(lent, &mut rows[..places], &mut set[..n])
+    }
+
+    // A case in what there is room for; one that asks for more is not the recorded one.
+    fn is_same(&self) -> bool {
+        if !self.fits() {
+            return false;
+        }
+        let table = self.table_at.numbers();
+        let received = self.received_at.string();
+        let order = self.order_at.string();
+        let value = self.value_at.string();
+        self.is_same_by(Lent {
+            table: front(&table, self.table_at.two()),
+            received: front(&received, self.received_at.string_len()),
+            order: front(&order, self.order_at.string_len()),
+            value: front(&value, self.value_at.string_len()),
+        })
+    }
 }
 
-// A case in what there is room for; one that asks for more is not the recorded one.
-fn run_case(list: &[u8], c: Case) -> bool {
-    if !fits(list, c) {
-        return false;
-    }
-    let table = numbers_at(list, c.table_at);
-    let received = string_at(list, c.received_at);
-    let order = string_at(list, c.order_at);
-    let value = string_at(list, c.value_at);
-    run_rows(
-        list,
-        c,
-        front(&table, two(list, c.table_at)),
-        part(&received, 0, string_len(list, c.received_at)),
-        part(&order, 0, string_len(list, c.order_at)),
-        part(&value, 0, string_len(list, c.value_at)),
-    )
-}
+struct Cases;
 
-// All cases.
-fn run_list<R: Print>(rt: &R, list: &[u8], counts: &mut [u32]) -> Result<usize> {
-    let n = four(list, 0);
-    let mut at = 4;
-    for k in 0..n {
-        let c = case_at(list, at);
-        report(rt, counts, octet(list, c.said_at), run_case(list, c), k)?;
-        at = c.end;
-    }
-    Ok(at)
-}
+impl RunCase for Cases {
+    ghost gives = { λ _ _. Unit };
 
-fn run_all<R: Print>(rt: &R, list: &[u8]) -> Result<()> {
-    let mut counts = [0u32; 257];
-    let end = run_list(rt, list, &mut counts)?;
-    print_counts(rt, four(list, 0), &counts, end == list.len())
+    fn run_case<'a>(at: Position<'a>) -> Ran<'a> {
+        let case = case_at(at);
+        Ran {
+            number: case.said_at.octet(),
+            is_same: case.is_same(),
+            end: case.end,
+        }
+    }
 }
 
 fn main(rt: HostRuntime) -> Result<()> {
-    let mut list = list_buffer();
-    let n = read_list(&mut rt.stdin(), &mut list);
-    run_all(&rt, part(&list, 0, n))
+    run_input::<_, _, Cases>(&rt, &mut rt.stdin())
 }

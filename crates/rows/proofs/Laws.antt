@@ -1,17 +1,17 @@
 -- Equal values come from equal answers: each map from an answer of this crate to the definitions tells two answers apart.
 -- By cases; two constructors are never equal.
+use Rattle.std.specs.Prelude.{ℕ, Option as Answered, Some, None}
 use mathlib.Core.Path.{◌≡◌, refl}
 use Rattle.rows.specs.Forms.{form_as, mandatory_form_as}
 use Rattle.rows.specs.Answers.{place_as}
 use Rattle.rows.specs.declared.columns.Form.{Form}
 use Rattle.rows.specs.declared.columns.MandatoryForm.{MandatoryForm}
-use Rattle.rows.specs.declared.index.Place.{Place}
 
-pub same_place : (a b : Place) → place_as a ≡ place_as b → a ≡ b
-same_place Place.Nowhere Place.Nowhere e = refl
-same_place Place.Nowhere (Place.At k) e = cc
-same_place (Place.At j) Place.Nowhere e = cc
-same_place (Place.At j) (Place.At k) e = cc
+pub same_place : (a b : Answered ℕ) → place_as a ≡ place_as b → a ≡ b
+same_place None None e = refl
+same_place None (Some k) e = cc
+same_place (Some j) None e = cc
+same_place (Some j) (Some k) e = cc
 
 pub same-form : (a b : Form) → form_as a ≡ form_as b → a ≡ b
 same-form Form.Half Form.Half e = refl

@@ -3,3 +3,4 @@ pub mod Steps
 pub mod Laws
 pub mod WholeRows
 pub mod Indexed
+pub mod PutRow

@@ -7,6 +7,7 @@ use mathlib.Core.List.{List, [], ◌∷◌}
 use lib.ListN.{length, get_or, drop, get_or-eq_default}
 use Rattle.definitions.specs.Rows.{Row, row_at, no_place}
 use Rattle.definitions.specs.Mandatory.{MandatoryRow, mandatory_row_at}
+use Rattle.std.specs.Prelude.{Option as Answered, Some, None}
 
 pub index-past : (ix : List ℕ) (x : ℕ) → length ix ≤ x → get_or ix x no_place ≡ no_place
 index-past ix x h = get_or-eq_default ix no_place h
@@ -27,3 +28,8 @@ unfolding mandatory_row_at
 mandatory-drop [] k h = absurd (omega arith)
 mandatory-drop (r ∷ rs) zero h = refl
 mandatory-drop (r ∷ rs) (suc k) h = mandatory-drop rs k (omega arith)
+
+-- an answer that is no `Some`
+pub none-where : {A : Type 0} (o : Answered A) → ((x : A) → o ≡ Some x → ⊥) → o ≡ None
+none-where None h = refl
+none-where (Some x) h = absurd (h x refl)

@@ -3,3 +3,4 @@ pub mod Forms
 pub mod Numbers
 pub mod Indexed
 pub mod Answers
+pub mod Lent

@@ -8,7 +8,7 @@ ghost use Rattle.rows.specs.Forms.{form_as, mandatory_form_as};
 ghost use Rattle.rows.specs.Numbers.{numbers_at};
 
 // The form of an optional element; fixed has so many value octets after the IEI.
-#[derive(Clone, Copy)]
+#[derive(Clone, Copy, PartialEq, Eq)]
 pub enum Form {
     Half,
     Fixed(usize),
@@ -18,7 +18,7 @@ pub enum Form {
 
 // The numbers of a row, with its first IEI alone: how many IEIs, that one, the code and the size of its form, the least and the
 // greatest whole length, the set of kinds.
-#[derive(Clone, Copy)]
+#[derive(Clone, Copy, PartialEq, Eq, Default)]
 pub struct Numbers {
     pub count: u32,
     pub first: u32,
@@ -30,7 +30,7 @@ pub struct Numbers {
 }
 
 // The form of a mandatory element.
-#[derive(Clone, Copy)]
+#[derive(Clone, Copy, PartialEq, Eq)]
 pub enum MandatoryForm {
     LowHalf,
     HighHalf,
@@ -39,79 +39,57 @@ pub enum MandatoryForm {
     LvE,
 }
 
-fn wide(x: u32) -> usize
-    ensures { result ≡ x }
+// A number of a row of so many. A position past the greatest counts as that, where no table has a number either.
+fn number_at<const WIDTH: usize>(table: &[u32], place: usize, column: usize) -> u32
+    ensures { result ≡ get_or (drop (WIDTH * place) table.now) column 0 }
 {
-    x as usize
+    let at = WIDTH.saturating_mul(place).saturating_add(column);
+    table.get(at).copied().unwrap_or(0)
 }
 
 // ---- optional rows
-
-// A number of a row.
-fn number_at(table: &[u32], place: usize, column: usize) -> u32
-    ensures { result ≡ get_or (drop (10 * place) table.now) column 0 }
-{
-    if place > table.len() / 10 {
-        return 0;
-    }
-    let start = 10 * place;
-    if column >= table.len() - start {
-        return 0;
-    }
-    table[start + column]
-}
 
 // How many places a table has; an unfinished row at the end is one too.
 pub fn places(table: &[u32]) -> usize
     ensures { result ≡ length (rows_of table.now) }
 {
-    if table.len() % 10 == 0 {
-        return table.len() / 10;
-    }
-    table.len() / 10 + 1
+    table.len().div_ceil(10)
 }
 
 pub fn count_at(table: &[u32], place: usize) -> u32
     ensures { result ≡ (row_at (rows_of table.now) place).count }
 {
-    number_at(table, place, 0)
+    number_at::<10>(table, place, 0)
 }
 
 pub fn code_at(table: &[u32], place: usize) -> u32
     ensures { result ≡ (row_at (rows_of table.now) place).code }
 {
-    number_at(table, place, 5)
+    number_at::<10>(table, place, 5)
 }
 
 pub fn size_at(table: &[u32], place: usize) -> usize
     ensures { result ≡ (row_at (rows_of table.now) place).size }
 {
-    wide(number_at(table, place, 6))
+    number_at::<10>(table, place, 6) as usize
 }
 
-// The numbers of a row that the table has whole, at once; of any other each is 0.
+// The numbers of a row that the table has whole, at once; of any other each is 0. They are read for each element: by one test for all,
+// since `number_at` would make one for each.
 pub fn numbers_at(table: &[u32], place: usize) -> Numbers
     ensures { result ≡ numbers_at table.now place }
 {
     if place >= table.len() / 10 {
-        return Numbers {
-            count: 0,
-            first: 0,
-            code: 0,
-            size: 0,
-            least: 0,
-            greatest: 0,
-            kinds: 0,
-        };
+        return Numbers::default();
     }
     let start = 10 * place;
     Numbers {
         count: table[start],
         first: table[start + 1],
         code: table[start + 5],
-        size: wide(table[start + 6]),
-        least: wide(table[start + 7]),
-        greatest: wide(table[start + 8]),
+        size: table[start + 6] as usize,
+        least: table[start + 7] as usize,
+        greatest: table[start + 8] as usize,
         kinds: table[start + 9],
     }
 }
@@ -143,19 +121,9 @@ pub fn form_at(table: &[u32], place: usize) -> Form
 pub fn iei_count(table: &[u32], place: usize) -> usize
     ensures { result ≡ length (ieis (row_at (rows_of table.now) place)) }
 {
-    if place > table.len() / 10 {
-        return 0;
-    }
-    let left = table.len() - 10 * place;
-    let count = wide(count_at(table, place));
-    let most = if left < 5 { left } else { 5 };
-    if count < most {
-        return count;
-    }
-    if most == 0 {
-        return 0;
-    }
-    most - 1
+    let left = table.len().saturating_sub(place.saturating_mul(10));
+    let there = left.saturating_sub(1).min(4);
+    there.min(count_at(table, place) as usize)
 }
 
 // One of the four numbers of a row for its IEIs, listed or not; 0 past the fourth.
@@ -165,56 +133,40 @@ pub fn slot_at(table: &[u32], place: usize, number: usize) -> u32
     if number >= 4 {
         return 0;
     }
-    number_at(table, place, 1 + number)
+    number_at::<10>(table, place, 1 + number)
 }
 
 // ---- mandatory rows
 
-fn plain_at(table: &[u32], row: usize, column: usize) -> u32
-    ensures { result ≡ get_or (drop (4 * row) table.now) column 0 }
-{
-    if row > table.len() / 4 {
-        return 0;
-    }
-    let start = 4 * row;
-    if column >= table.len() - start {
-        return 0;
-    }
-    table[start + column]
-}
-
 pub fn mandatory_rows(table: &[u32]) -> usize
     ensures { result ≡ length (mandatory_rows_of table.now) }
 {
-    if table.len() % 4 == 0 {
-        return table.len() / 4;
-    }
-    table.len() / 4 + 1
+    table.len().div_ceil(4)
 }
 
 pub fn mandatory_code_at(table: &[u32], row: usize) -> u32
     ensures { result ≡ (mandatory_row_at (mandatory_rows_of table.now) row).code }
 {
-    plain_at(table, row, 0)
+    number_at::<4>(table, row, 0)
 }
 
 pub fn mandatory_size_at(table: &[u32], row: usize) -> usize
     ensures { result ≡ (mandatory_row_at (mandatory_rows_of table.now) row).size }
 {
-    wide(plain_at(table, row, 1))
+    number_at::<4>(table, row, 1) as usize
 }
 
 // The least whole length, length octets counted.
 pub fn mandatory_least_at(table: &[u32], row: usize) -> usize
     ensures { result ≡ (mandatory_row_at (mandatory_rows_of table.now) row).least }
 {
-    wide(plain_at(table, row, 2))
+    number_at::<4>(table, row, 2) as usize
 }
 
 pub fn mandatory_kinds_at(table: &[u32], row: usize) -> u32
     ensures { result ≡ (mandatory_row_at (mandatory_rows_of table.now) row).kinds }
 {
-    plain_at(table, row, 3)
+    number_at::<4>(table, row, 3)
 }
 
 fn mandatory_form_of(code: u32, size: usize) -> MandatoryForm

@@ -6,23 +6,10 @@ ghost use Rattle.rows.specs.Answers.{place_as};
 // The entry of an IEI that has no place.
 pub const NO_PLACE: u8 = 255;
 
-#[derive(Clone, Copy)]
-pub enum Place {
-    At(usize),
-    Nowhere,
-}
-
 // What an index says of an IEI.
-pub fn place_of(index: &[u8], iei: u8) -> Place
+pub fn place_of(index: &[u8], iei: u8) -> Option<usize>
     ensures { place_as result ≡ place_in index.now iei }
 {
-    let at = iei as usize;
-    if at >= index.len() {
-        return Place::Nowhere;
-    }
-    let place = index[at];
-    if place == NO_PLACE {
-        return Place::Nowhere;
-    }
-    Place::At(place as usize)
+    let &place = index.get(usize::from(iei))?;
+    (place != NO_PLACE).then_some(usize::from(place))
 }

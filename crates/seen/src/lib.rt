@@ -6,14 +6,15 @@ ghost use Rattle.definitions.specs.Basic.{bit};
 ghost use Rattle.definitions.specs.Elements.{including};
 ghost use Rattle.seen.specs.Seen.{set_of, seen_of, including_place};
 
-#[derive(Clone, Copy)]
+// Two numbers, as the C interface has them.
+#[derive(Clone, Copy, PartialEq, Eq)]
 pub struct Seen {
     pub low: u64,
     pub high: u64,
 }
 
 // Bit k of a number.
-fn has(set: u64, k: usize) -> bool
+fn has_bit(set: u64, k: usize) -> bool
     requires { k < 64 }
     ensures { result ≡ bit k set }
 {
@@ -21,54 +22,58 @@ fn has(set: u64, k: usize) -> bool
 }
 
 // A number with bit k in it.
-fn with(set: u64, k: usize) -> u64
+fn with_bit(set: u64, k: usize) -> u64
     requires { k < 64 }
     ensures { result ≡ including k set }
 {
-    if has(set, k) {
+    if has_bit(set, k) {
         return set;
     }
     set + (1 << k)
 }
 
-// Whether no place was met.
-pub fn seen_none(seen: Seen) -> bool
-    ensures { result ≡ eqb (set_of seen) 0 }
-{
-    if seen.low == 0 {
-        return seen.high == 0;
+impl Seen {
+    // No place.
+    pub fn new() -> Self
+        ensures { result ≡ seen_of 0 }
+    {
+        Seen { low: 0, high: 0 }
     }
-    false
-}
 
-// Whether a place was met.
-pub fn seen_has(seen: Seen, place: usize) -> bool
-    ensures { result ≡ bit place (set_of seen) }
-{
-    if place < 64 {
-        return has(seen.low, place);
+    // Whether no place was met.
+    pub fn is_empty(self) -> bool
+        ensures { result ≡ eqb (set_of self) 0 }
+    {
+        self.low == 0 && self.high == 0
     }
-    if place < 128 {
-        return has(seen.high, place - 64);
-    }
-    false
-}
 
-// The set with a place in it; a place from 128 on is none, and leaves it as it is.
-pub fn seen_with(seen: Seen, place: usize) -> Seen
-    ensures { result ≡ seen_of (including_place place (set_of seen)) }
-{
-    if place < 64 {
-        return Seen {
-            low: with(seen.low, place),
-            high: seen.high,
-        };
+    // Whether a place was met.
+    pub fn has(self, place: usize) -> bool
+        ensures { result ≡ bit place (set_of self) }
+    {
+        if place < 64 {
+            return has_bit(self.low, place);
+        }
+        place < 128 && has_bit(self.high, place - 64)
     }
-    if place < 128 {
-        return Seen {
-            low: seen.low,
-            high: with(seen.high, place - 64),
-        };
+
+    // The set with a place in it; a place from 128 on is none, and leaves it as it is.
+    pub fn with(self, place: usize) -> Self
+        ensures { result ≡ seen_of (including_place place (set_of self)) }
+    {
+        let Seen { low, high } = self;
+        if place < 64 {
+            return Seen {
+                low: with_bit(low, place),
+                high,
+            };
+        }
+        if place < 128 {
+            return Seen {
+                low,
+                high: with_bit(high, place - 64),
+            };
+        }
+        self
     }
-    seen
 }

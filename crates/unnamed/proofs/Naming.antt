@@ -5,12 +5,13 @@ use native.Mathlib.Omega.{arith}
 use native.Mathlib.Numerals.{add-one}
 use mathlib.Core.Path.{◌≡◌, refl, ap, ◌∙◌}
 use mathlib.Core.List.{List, [], ◌∷◌, append-nil}
-use mathlib.Core.Bool.{Bool, true, false, not, ◌&&◌, and-false, false≢true}
+use mathlib.Core.Bool.{Bool, true, false, not, ◌&&◌, false≢true}
 use mathlib.Core.Option.{Option, none, some}
-use borrow.Author.Tests.{eq-eqb, ne_eqb, lt-ltb, le-ltb, le-leb, lt-leb}
+use borrow.Author.Tests.{eq-eqb, ne_eqb, lt-ltb, le-ltb, le-leb}
 use lib.ListN.{length, get_or, drop, drop_of_length-le}
 use lib.Seq.{drop-cons}
-use lib.Dec.{eqb, ltb}
+use lib.Dec.{eqb, ltb, leb}
+use Rattle.std.specs.List.{list_all, range_with_len}
 use Rattle.definitions.specs.Basic.{pick, bit}
 use Rattle.definitions.specs.Rows.{place_in}
 use Rattle.definitions.specs.Values.{Octets, value_at, present, good_value}
@@ -87,25 +88,18 @@ pub falls-over : (rows : List ℕ) (k to high : ℕ) → to ≤ k → falls_from
 unfolding falls_from
 falls-over rows k to high h = let z : to - k ≡ 0 = omega arith in rw z
 
-module _ (o : Octets) (rows : List ℕ) (k to : ℕ) (h : k < to) where
-  bare-next : bare o rows k (to - k) ≡ ((not (present (value_at rows k)) && good_value o (value_at rows k)) && bare o rows (k + 1) (to - (k + 1)))
-  unfolding bare
-  bare-next = let z : to - k ≡ suc (to - (k + 1)) = omega arith in rw (z, add-one)
+-- a bare row, as it is tested
+abbrev pub bare_row : Octets → List ℕ → ℕ → Bool
+bare_row o rows k = eqb (value_at rows k).source 0 && good_value o (value_at rows k)
 
-  pub bare-present : 0 < (value_at rows k).source → bare o rows k (to - k) ≡ false
-  unfolding present
-  bare-present l = bare-next ∙ rw (le-leb 1 (value_at rows k).source l)
+absent : (source : ℕ) → eqb source 0 ≡ not (leb 1 source)
+absent zero = refl
+absent (suc n) = rw (ne_eqb (suc n) 0 (omega arith), le-leb 1 (suc n) (omega arith))
 
-  pub bare-bad : good_value o (value_at rows k) ≡ false → bare o rows k (to - k) ≡ false
-  bare-bad e = bare-next ∙ rw (e, and-false)
-
-  pub bare-on : (value_at rows k).source ≡ 0 → good_value o (value_at rows k) ≡ true → bare o rows k (to - k) ≡ bare o rows (k + 1) (to - (k + 1))
-  unfolding present
-  bare-on e g = bare-next ∙ rw (lt-leb 1 (value_at rows k).source (omega arith), g)
-
-pub bare-over : (o : Octets) (rows : List ℕ) (k to : ℕ) → to ≤ k → bare o rows k (to - k) ≡ true
-unfolding bare
-bare-over o rows k to h = let z : to - k ≡ 0 = omega arith in rw z
+pub all-bare : (o : Octets) (rows : List ℕ) (n k : ℕ) → list_all (bare_row o rows) (range_with_len k n) ≡ bare o rows k n
+unfolding bare present
+all-bare o rows zero k = refl
+all-bare o rows (suc n) k = rw (absent (value_at rows k).source) (ap (λ (b : Bool). (not (leb 1 (value_at rows k).source) && good_value o (value_at rows k)) && b) (all-bare o rows n (k + 1) ∙ ap (λ (i : ℕ). bare o rows i n) (add-one k)))
 
 -- ---- elements
 

@@ -9,9 +9,9 @@ ghost use Rattle.seen.specs.Seen.{set_of};
 ghost use Rattle.values.specs.Rows.{sources_of};
 ghost use Rattle.unnamed.specs.Named.{with_iei, named, falls_from, names, unnamed, bare};
 
-use placing::{Passed, put_between};
-use rows::index::{Place, place_of};
-use seen::{Seen, seen_has, seen_with};
+use placing::put_between;
+use rows::index::place_of;
+use seen::Seen;
 use values::row::{is_good, row_at};
 
 // A set with the place of an IEI in it, if it has one.
@@ -19,8 +19,8 @@ fn with_iei(index: &[u8], set: Seen, iei: u8) -> Seen
     ensures { set_of result ≡ with_iei index.now iei (set_of set) }
 {
     match place_of(index, iei) {
-        Place::At(k) => seen_with(set, k),
-        Place::Nowhere => set,
+        Some(k) => set.with(k),
+        None => set,
     }
 }
 
@@ -28,7 +28,7 @@ fn with_iei(index: &[u8], set: Seen, iei: u8) -> Seen
 fn named_in(index: &[u8], order: &[u8]) -> Seen
     ensures { set_of result ≡ named index.now 0 order.now }
 {
-    let mut set = Seen { low: 0, high: 0 };
+    let mut set = Seen::new();
     let mut from = 0;
     while from < order.len() {
         if order[from] > 0 {
@@ -49,8 +49,7 @@ fn starts_fall(rows: &[u32], places: usize) -> bool
     ensures { result ≡ falls_from rows.now 0 places 0 }
 {
     let mut high = 0;
-    let mut k = 0;
-    while k < places {
+    for k in 0..places {
         let row = row_at(rows, k);
         if row.source == 1 {
             if row.start < high {
@@ -58,37 +57,29 @@ fn starts_fall(rows: &[u32], places: usize) -> bool
             }
             high = row.start;
         }
-        k += 1;
     }
     false
 }
 
 // The places that an order log names, where the first so many were received in another order than the table's; else none.
+#[tactic(auto, unfolding(crate::specs::Named::names))]
 pub fn names_of(index: &[u8], rows: &[u32], order: &[u8], places: usize) -> Seen
     ensures { set_of result ≡ names index.now rows.now order.now places }
 {
     if starts_fall(rows, places) {
         return named_in(index, order);
     }
-    Seen { low: 0, high: 0 }
+    Seen::new()
 }
 
 // Whether the rows of the places from one on, up to another, are all absent and well formed.
 fn is_bare(rows: &[u32], received: &[u8], set: &[u8], from: usize, to: usize) -> bool
     ensures { result ≡ bare (sources_of received.now set.now) rows.now from (to - from) }
 {
-    let mut k = from;
-    while k < to {
+    (from..to).all(|k| {
         let row = row_at(rows, k);
-        if row.source > 0 {
-            return false;
-        }
-        if !is_good(row, received, set) {
-            return false;
-        }
-        k += 1;
-    }
-    true
+        row.source == 0 && is_good(row, received, set)
+    })
 }
 
 // The elements of the places from one on, up to another, that a set does not name, each under its first IEI, behind a position. Most
@@ -103,31 +94,20 @@ pub fn put_unnamed<'a>(
     to: usize,
     out: &mut [u8],
     start: usize,
-) -> Passed
+) -> Option<usize>
     ensures { PutBy (unnamed (lent_of table.now rows.now received.now set.now) (set_of names) from (to - from)) start out.old result out.new }
 {
     if start > out.len() {
-        return Passed::Not;
+        return None;
     }
-    if is_bare(&*rows, &*received, &*set, from, to) {
-        return Passed::To(start);
+    if is_bare(rows, received, set, from, to) {
+        return Some(start);
     }
     let mut at = start;
-    let mut k = from;
-    while k < to {
-        if seen_has(names, k) {
-            k += 1;
-        } else {
-            match put_between(&*table, &*rows, &*received, &*set, k, k + 1, out, at) {
-                Passed::To(next) => {
-                    at = next;
-                    k += 1;
-                }
-                Passed::Not => {
-                    return Passed::Not;
-                }
-            }
+    for k in from..to {
+        if !names.has(k) {
+            at = put_between(table, rows, received, set, k, k + 1, out, at)?;
         }
     }
-    Passed::To(at)
+    Some(at)
 }

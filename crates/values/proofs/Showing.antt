@@ -1,25 +1,60 @@
 -- Showing a value: a row by its source, every row in turn, and what is shown after the checks.
 -- Each law settles the tests before it.
-use Prim.Native.Nat.{ℕ, zero, suc, ◌+◌, ◌-◌, ◌≤◌, ◌<◌}
+use Prim.Native.Nat.{ℕ, zero, suc, ◌+◌, ◌-◌, ◌*◌, ◌≤◌, ◌<◌, min}
 use native.Mathlib.Omega.{arith}
 use native.Mathlib.Numerals.{add-one}
 use mathlib.Core.Path.{◌≡◌, refl, ap, sym, ◌∙◌}
 use mathlib.Core.List.{List, [], ◌∷◌}
 use mathlib.Core.Bool.{Bool, true, false, ◌&&◌, not}
 use mathlib.Core.Option.{Option, none, some}
-use borrow.Author.Tests.{le-leb, lt-leb, eqb-true, eqb-false}
-use lib.ListN.{length, take, drop}
-use lib.Seq.{take-nil, drop-nil}
-use lib.Dec.{leb, eqb}
+use borrow.Author.Tests.{le-leb, lt-leb, eqb-true, eqb-false, ltb-true, ltb-false}
+use lib.ListN.{length, get_or, take, drop}
+use lib.Seq.{take-nil, drop-nil, get_or-drop}
+use lib.Dec.{leb, ltb, eqb}
 use denote.Ref.{Bor}
+use Rattle.std.proofs.lemmas.List.{drop_all}
+use Rattle.definitions.proofs.Lists.{to_end}
 use Rattle.definitions.specs.Basic.{pick, Answer, answer, refuse, refusal, unless, Used, content}
 use Rattle.definitions.specs.Rows.{Form, rows_of, row_at, form}
-use Rattle.definitions.specs.Values.{Octets, Value, value_at, present, source_of, octets_at, good_value, first_from, fits, unfit_at, place_checks, shown_by, showing}
+use Rattle.definitions.specs.Values.{Octets, Value, mandatory_width, value_in, value_at, present, source_of, octets_at, good_value, first_from, fits, unfit_at, place_checks, shown_by, showing}
 use Rattle.values.specs.Checks.{long_with}
 use Rattle.values.specs.Shows.{shown_row}
 use Rattle.octets.specs.Places.{StandsAt}
 use Rattle.values.specs.Rows.{sources_of, PlacedAs}
 use Rattle.values.proofs.Checking.{refusal-append, long-none}
+
+-- ---- the numbers of a row
+
+-- those behind a position are those of the row there; of a mandatory row, without an IEI
+pub value-from : (w : ℕ) (rows : List ℕ) (k : ℕ) → value_in w (drop (w * k) rows) 0 ≡ value_in w rows k
+unfolding value_in
+value-from w rows k =
+    let z : w * 0 ≡ 0 = omega arith in
+    let y : w * k + 0 ≡ w * k = omega arith in
+    let d : (j : ℕ) → get_or (drop (w * k) rows) j 0 ≡ get_or rows (w * k + j) 0 = λ j. get_or-drop (w * k) rows j 0 in
+    rw z (rw (d 0 ∙ ap (λ (n : ℕ). get_or rows n 0) y, d 1, d 2, d 3))
+
+-- those at the front, one by one; and as those of a mandatory row
+pub front-is : (s : List ℕ) {a b c d : ℕ} → a ≡ get_or s 0 0 → b ≡ get_or s 1 0 → c ≡ get_or s 2 0 → d ≡ get_or s 3 0 → ◌≡◌ {A = Value} (record { source = a; start = b; size = c; iei = d }) (value_at s 0)
+unfolding value_in
+front-is s e f g h = rw (e, f, g, h)
+
+pub value-plain : (s : List ℕ) {v : Value} → v ≡ value_at s 0 → record { source = v.source; start = v.start; size = v.size; iei = 0 } ≡ value_in mandatory_width s 0
+unfolding value_in
+value-plain s e = ap (λ (w : Value). record { source = w.source; start = w.start; size = w.size; iei = 0 }) e
+
+-- the numbers from a position on, which may be past their end, and past the machine's numbers
+pub drop-capped : (n m : ℕ) (s : List ℕ) → m ≡ min (min n 18446744073709551615) (length s) → length s < 18446744073709551616 → take (length s - m) (drop m s) ≡ drop n s
+drop-capped n m s e h = to_end m s ∙ by (ltb (length s) n) refl
+  where
+    by : (b : Bool) → ltb (length s) n ≡ b → drop m s ≡ drop n s
+    by true q =
+        let l = ltb-true (length s) n q in
+        drop_all m s (omega arith) ∙ sym (drop_all n s (omega arith))
+    by false q =
+        let l = ltb-false (length s) n q in
+        let z : m ≡ n = omega arith in
+        ap (λ (k : ℕ). drop k s) z
 
 -- ---- a row by its source
 

@@ -9,37 +9,37 @@ ghost use Rattle.values.specs.Rows.{sources_of};
 ghost use Rattle.values.specs.Checks.{place_check_as, long_with};
 
 use crate::row::any_bad;
-use checks::{Checked, check_table};
+use checks::{BadRow, check_table};
 use octets::{MOST_OCTETS, part};
 use rows::columns::places;
 
-// What the checks say: nothing is wrong, or the first refusal.
-#[derive(Clone, Copy)]
-pub enum PlaceCheck {
-    Passes,
+// The first refusal of the checks.
+#[derive(Clone, Copy, PartialEq, Eq)]
+pub enum PlaceError {
     BadTable(usize),
     TooLong,
     NoRoom,
     Malformed,
 }
 
+impl From<BadRow> for PlaceError {
+    ghost use Rattle.values.specs.declared.check.PlaceError.{PlaceError};
+
+    ghost from_gives = { λ bad e. e ≡ PlaceError.BadTable bad.0 };
+
+    fn from(bad: BadRow) -> PlaceError {
+        PlaceError::BadTable(bad.0)
+    }
+}
+
 // Whether received or set octets are too long, or the set octets would be with so many more; or a used count above its buffer.
 pub fn too_long(received: &[u8], set: &[u8], used: usize, more: usize) -> bool
     ensures { result ≡ long_with received.now (used_of set.now used) more }
 {
-    if received.len() > MOST_OCTETS {
-        return true;
-    }
-    if used > set.len() {
-        return true;
-    }
-    if used > MOST_OCTETS {
-        return true;
-    }
-    if more > MOST_OCTETS - used {
-        return true;
-    }
-    false
+    received.len() > MOST_OCTETS
+        || used > set.len()
+        || used > MOST_OCTETS
+        || more > MOST_OCTETS - used
 }
 
 // The checks before the rows, under a table that passes.
@@ -51,20 +51,17 @@ fn rows_room(
     used: usize,
     more: usize,
     long: bool,
-) -> PlaceCheck
+) -> Result<(), PlaceError>
     requires { first_bad (rows_of table.now) ≡ none }
     ensures { place_check_as result ≡ refusal (room_checks (rows_of table.now) (long || long_with received.now (used_of set.now used) more) rows.now) }
 {
-    if long {
-        return PlaceCheck::TooLong;
-    }
-    if too_long(received, set, used, more) {
-        return PlaceCheck::TooLong;
+    if long || too_long(received, set, used, more) {
+        return Err(PlaceError::TooLong);
     }
     if rows.len() < 4 * places(table) {
-        return PlaceCheck::NoRoom;
+        return Err(PlaceError::NoRoom);
     }
-    PlaceCheck::Passes
+    Ok(())
 }
 
 // In document 01's order: the table; the octets, with so many set octets more, or what else is too long; room for the rows.
@@ -76,13 +73,11 @@ pub fn check_room(
     used: usize,
     more: usize,
     long: bool,
-) -> PlaceCheck
+) -> Result<(), PlaceError>
     ensures { place_check_as result ≡ refusal (room_checks (rows_of table.now) (long || long_with received.now (used_of set.now used) more) rows.now) }
 {
-    match check_table(table) {
-        Checked::Passes => rows_room(table, rows, received, set, used, more, long),
-        Checked::BadRow(k) => PlaceCheck::BadTable(k),
-    }
+    check_table(table)?;
+    rows_room(table, rows, received, set, used, more, long)
 }
 
 // Whether a row is malformed, or a place is not in the table.
@@ -90,10 +85,7 @@ pub fn bad_place(table: &[u32], rows: &[u32], received: &[u8], set: &[u8], place
     ensures { result ≡ bad_place (rows_of table.now) (sources_of received.now set.now) rows.now place }
 {
     let n = places(table);
-    if any_bad(rows, true, n, received, set) {
-        return true;
-    }
-    place >= n
+    any_bad(rows, true, n, received, set) || place >= n
 }
 
 // The checks of showing and clearing, which see no log: those before the rows, then every row and the place.
@@ -104,19 +96,12 @@ pub fn check_place(
     set: &[u8],
     used: usize,
     place: usize,
-) -> PlaceCheck
+) -> Result<(), PlaceError>
     ensures { place_check_as result ≡ refusal (place_checks (rows_of table.now) (long_with received.now (used_of set.now used) 0) (sources_of received.now (content (used_of set.now used))) rows.now place) }
 {
-    match check_room(&*table, &*rows, &*received, &*set, used, 0, false) {
-        PlaceCheck::Passes => {
-            if bad_place(&*table, &*rows, &*received, part(&*set, 0, used), place) {
-                return PlaceCheck::Malformed;
-            }
-            PlaceCheck::Passes
-        }
-        PlaceCheck::BadTable(k) => PlaceCheck::BadTable(k),
-        PlaceCheck::TooLong => PlaceCheck::TooLong,
-        PlaceCheck::NoRoom => PlaceCheck::NoRoom,
-        PlaceCheck::Malformed => PlaceCheck::Malformed,
+    check_room(table, rows, received, set, used, 0, false)?;
+    if bad_place(table, rows, received, part(set, 0, used), place) {
+        return Err(PlaceError::Malformed);
     }
+    Ok(())
 }

@@ -2,23 +2,24 @@
 -- An element that starts elsewhere is passed over, by the definition and by the code.
 use Prim.Native.Nat.{ℕ, ◌≤◌}
 use native.Mathlib.Omega.{arith}
-use mathlib.Core.Path.{◌≡◌, ap, sym, ◌∙◌}
+use mathlib.Core.Path.{◌≡◌, refl, ap, sym, ◌∙◌}
 use mathlib.Core.List.{List, [], ◌∷◌}
 use mathlib.Core.Bool.{Bool, true, false}
-use lib.ListN.{length, drop}
+use lib.ListN.{length}
 use lib.Dec.{eqb}
 use borrow.Author.Tests.{eq-eqb, ne_eqb}
+use Rattle.std.specs.Prelude.{Some, None, Ok, Err}
+use Rattle.std.specs.Result.{result_unwrap_or}
 use Rattle.definitions.specs.Basic.{pick}
 use Rattle.definitions.specs.Rows.{rows_of}
 use Rattle.definitions.specs.Tables.{start_of}
-use Rattle.definitions.specs.Elements.{Element as DefElement, Parted, elements, step, parted, elements_of}
+use Rattle.definitions.specs.Elements.{Element as DefElement, Parted, elements, parted, elements_of}
 use Rattle.definitions.specs.Listing.{line}
-use Rattle.elements.specs.Steps.{element_of, step_of, met_of}
-use Rattle.elements.specs.Nexts.{start_state, next_of}
+use Rattle.elements.specs.Steps.{element_of, stands_at}
+use Rattle.elements.specs.Nexts.{start_state, Next, next_of}
 use Rattle.elements.specs.declared.element.State.{State}
 use Rattle.elements.specs.declared.element.Element.{Element}
-use Rattle.elements.specs.declared.element.Step.{Step}
-use Rattle.elements.specs.declared.next.NextElement.{NextElement}
+use Rattle.elements.specs.declared.next.NextError.{NextError}
 use Rattle.elements.proofs.Nexts.{from, Nexts, from_start, nexts, cuts, ends}
 use Rattle.elements.proofs.Walks.{back, next-step, Behind, behind, none_left, never-cut}
 use Rattle.wording.specs.Lines.{line_of}
@@ -44,6 +45,12 @@ module _ (at : ℕ) where
       by : (t : Bool) → length (line_at at es) ≤ 25 → length (pick t (line d) (line_at at es)) ≤ 25
       by true h = rw (← line-is d) (line-short (element_of d))
       by false h = h
+
+-- ---- the element that `unwrap_or` gives
+
+pub some-next : (n : Next) {x : Element × State} → Some x ≡ result_unwrap_or n None → Ok (Some x) ≡ n
+some-next (Ok y) h = ap Ok h
+some-next (Err e) h = cc
 
 -- ---- the loop
 
@@ -72,19 +79,23 @@ module _ (table part : List ℕ) (at : ℕ) where
 
   -- what the step at a state answers
   module _ (w : ReadWhole table part) {s : State} (i : Looking s) where
-    answered : {n : NextElement} → n ≡ next_of (rows_of table) start_of false part s → back n ≡ step_of (step (rows_of table) start_of false (met_of s) s.at (drop s.at part))
+    answered : {n : Next} → n ≡ next_of (rows_of table) start_of false part s → back n ≡ stands_at (rows_of table) start_of false part s
     answered e = next-step (rows_of table) start_of false part s w.passes w.short e
 
-    pub next-found : {e : Element} {v : State} → NextElement.Next e v ≡ next_of (rows_of table) start_of false part s → Found s e v
+    pub next-found : {e : Element} {v : State} → Ok (Some (e, v)) ≡ next_of (rows_of table) start_of false part s → Found s e v
     next-found {e} {v} h = nexts (rows_of table) start_of false part s i.within e v (answered h)
 
-    pub not-cut : {a x n m : ℕ} → NextElement.Cut a x n m ≡ next_of (rows_of table) start_of false part s → ⊥
-    not-cut h = never-cut i.reads (cuts (rows_of table) start_of false part s i.within (answered h))
-
-    pub found_none : {n : NextElement} → n ≡ next_of (rows_of table) start_of false part s → Step.End ≡ back n → [] ≡ all
+    at_end : {n : Next} → n ≡ next_of (rows_of table) start_of false part s → Ok None ≡ back n → [] ≡ all
     unfolding line_at
-    found_none h f =
+    at_end h f =
         ap (line_at at) (sym (none_left i.reads (ends (rows_of table) start_of false part s i.within (f ∙ answered h)))) ∙ i.tells
+
+    -- a refusal does not come
+    pub found_none : (n : Next) → n ≡ next_of (rows_of table) start_of false part s → None ≡ result_unwrap_or n None → [] ≡ all
+    found_none (Ok y) h f = at_end h (ap Ok f)
+    found_none (Err (NextError.CutShort c)) h f = absurd (never-cut i.reads (cuts (rows_of table) start_of false part s i.within (answered h)))
+    found_none (Err NextError.TooLong) h f = at_end h refl
+    found_none (Err (NextError.BadTable k)) h f = at_end h refl
 
   -- an element that was found
   module _ {s v : State} {e : Element} (i : Looking s) (n : Found s e v) where

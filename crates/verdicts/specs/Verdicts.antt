@@ -1,5 +1,5 @@
 -- What nas-check prints, by table number (document 02, item 8).
-use Rattle.std.specs.Prelude.{ℕ, ◌≤◌, ◌≡◌, List, [], ◌∷◌, ◌++◌, Bool, false, length, ltb, eqb}
+use Rattle.std.specs.Prelude.{ℕ, ◌≤◌, ◌≡◌, List, [], ◌∷◌, ◌++◌, Bool, false, length, ltb, eqb, Result, Ok, Err}
 use Rattle.std.proofs.Math.Option.{none, some}
 use Rattle.definitions.specs.Basic.{pick, most_octets, Answer, answer}
 use Rattle.definitions.specs.Rows.{Row, rows_of, first_bad}
@@ -7,7 +7,7 @@ use Rattle.definitions.specs.Tables.{table_of, start_of}
 use Rattle.definitions.specs.Elements.{Element, Parted, elements, cut_short, parted, elements_of}
 use Rattle.definitions.specs.Listing.{ascii, decimal, newline, line, listed, most_listed}
 use Rattle.definitions.specs.Checking.{offender, checking_by}
-use Rattle.checking.specs.declared.PartCheck.{PartCheck}
+use Rattle.checking.specs.declared.PartError.{PartError}
 use Rattle.wording.specs.Told.{refuses}
 
 -- the line of the listing of the element that starts at a position
@@ -44,13 +44,13 @@ unfoldable pub line_by : ℕ → List ℕ → ℕ → List ℕ
 line_by number part at = elim (table_of number) [ none ↦ [] | some table ↦ line_at at (elements_of (parted (rows_of table) start_of false part)) ]
 
 -- the text of an answer
-abbrev pub check_said : ℕ → List ℕ → PartCheck → List ℕ
-check_said number part PartCheck.Accepted = ascii "accepted" ++ newline
-check_said number part (PartCheck.Offends at) = (ascii "refused 29 at " ++ (decimal at ++ newline)) ++ line_by number part at
-check_said number part (PartCheck.CutShort a x k m) = listed 0 (cut_short a x k m)
-check_said number part PartCheck.TooLong = ascii "too long" ++ newline
-check_said number part (PartCheck.BadTable k) = []
-check_said number part PartCheck.NoTable = []
+abbrev pub check_said : ℕ → List ℕ → Result Unit PartError → List ℕ
+check_said number part (Ok x) = ascii "accepted" ++ newline
+check_said number part (Err (PartError.Offends at)) = (ascii "refused 29 at " ++ (decimal at ++ newline)) ++ line_by number part at
+check_said number part (Err (PartError.CutShort c)) = listed 0 (cut_short c.start c.first c.left c.missing)
+check_said number part (Err PartError.TooLong) = ascii "too long" ++ newline
+check_said number part (Err (PartError.BadTable k)) = []
+check_said number part (Err PartError.NoTable) = []
 
 -- a table that passes its check, and a part within the limit of reading that it reads whole, with the option off
 pub record ReadWhole (table part : List ℕ) : Type 0 where

@@ -8,12 +8,11 @@ ghost use Rattle.definitions.specs.Tables.{start_of};
 ghost use Rattle.definitions.specs.Elements.{parted, elements_of};
 ghost use Rattle.checking.specs.Checks.{part_check_as};
 ghost use Rattle.wording.specs.Puts.{Put};
-ghost use Rattle.wording.specs.Told.{refuses};
 ghost use Rattle.verdicts.specs.Verdicts.{ReadWhole, line_at, line_by, check_text, check_telling, check_refused, check_said};
 
-use checking::{PartCheck, check_part_by};
-use elements::next::{NextElement, next_element, start_state};
-use numbered::{Loaded, TLVE_START, load};
+use checking::{PartError, check_part_by};
+use elements::next::{next_element, start_state};
+use real::{TLVE_START, numbered};
 use wording::{MOST_LISTED, Told, say, say_cut, say_line, say_number};
 
 // The line of the element that starts at a position, of a part that is read whole.
@@ -22,28 +21,15 @@ fn put_line_at(octets: &[u8], table: &[u32], at: usize, out: &mut [u8], used: us
     ensures { Put out.old used (line_at at (elements_of (parted (rows_of table.now) start_of false octets.now))) out.new result }
 {
     let mut state = start_state();
-    loop {
-        match next_element(octets, table, TLVE_START, false, state) {
-            NextElement::Next(e, next) => {
-                if e.start == at {
-                    return say_line(out, used, e);
-                }
-                state = next;
-            }
-            NextElement::Cut(_, _, _, _) => {
-                return used;
-            }
-            NextElement::End => {
-                return used;
-            }
-            NextElement::TooLong => {
-                return used;
-            }
-            NextElement::BadTable(_) => {
-                return used;
-            }
+    while let Some((e, next)) = next_element(octets, table, TLVE_START, false, state).unwrap_or(
+        None,
+    ) {
+        if e.start == at {
+            return say_line(out, used, e);
         }
+        state = next;
     }
+    used
 }
 
 // The same of the first offender, by table number.
@@ -51,51 +37,36 @@ fn put_offender(number: u32, octets: &[u8], at: usize, out: &mut [u8], used: usi
     requires { (used ≤ 32) × (answer 29 (at ∷ []) ≡ check_telling number octets.now) }
     ensures { Put out.old used (line_by number octets.now at) out.new result }
 {
-    let mut table = [0u32; 400];
-    let mut index = [255u8; 256];
-    match load(number, &mut table, &mut index) {
-        Loaded::Table(n) => put_line_at(octets, &table[..n], at, out, used),
-        Loaded::NoTable => used,
+    match numbered(number) {
+        Some(table) => put_line_at(octets, table.rows, at, out, used),
+        None => used,
     }
 }
 
-fn put_check(number: u32, octets: &[u8], check: PartCheck, out: &mut [u8]) -> usize
+fn put_check(number: u32, octets: &[u8], check: Result<(), PartError>, out: &mut [u8]) -> usize
     requires { part_check_as check ≡ check_telling number octets.now }
     ensures { Put out.old 0 (check_said number octets.now check) out.new result }
 {
     match check {
-        PartCheck::Accepted => say(out, 0, b"accepted\n"),
-        PartCheck::Offends(start) => {
+        Ok(()) => say(out, 0, b"accepted\n"),
+        Err(PartError::Offends(start)) => {
             let next = say(out, 0, b"refused 29 at ");
             let used = say_number(out, next, start);
             put_offender(number, octets, start, out, used)
         }
-        PartCheck::CutShort(start, x, left, missing) => say_cut(out, 0, start, x, left, missing),
-        PartCheck::TooLong => say(out, 0, b"too long\n"),
-        PartCheck::BadTable(_) => 0,
-        PartCheck::NoTable => 0,
-    }
-}
-
-fn is_refused_check(check: PartCheck) -> bool
-    ensures { result ≡ refuses (part_check_as check) }
-{
-    match check {
-        PartCheck::Accepted => false,
-        PartCheck::Offends(_) => true,
-        PartCheck::CutShort(_, _, _, _) => true,
-        PartCheck::TooLong => true,
-        PartCheck::BadTable(_) => true,
-        PartCheck::NoTable => true,
+        Err(PartError::CutShort(cut)) => say_cut(out, 0, cut),
+        Err(PartError::TooLong) => say(out, 0, b"too long\n"),
+        Err(PartError::BadTable(_)) => 0,
+        Err(PartError::NoTable) => 0,
     }
 }
 
 // The answer that is told.
-fn check_told(number: u32, octets: &[u8]) -> PartCheck
+fn check_told(number: u32, octets: &[u8]) -> Result<(), PartError>
     ensures { part_check_as result ≡ check_telling number octets.now }
 {
     if octets.len() > MOST_LISTED {
-        return PartCheck::TooLong;
+        return Err(PartError::TooLong);
     }
     check_part_by(number, octets)
 }
@@ -107,7 +78,8 @@ pub fn check_text(number: u32, octets: &[u8], out: &mut [u8; 64]) -> Told
     ensures out_after { out.new ≡ over (check_text number octets.now) out.old }
 {
     let check = check_told(number, octets);
-    let refused = is_refused_check(check);
-    let len = put_check(number, octets, check, out);
-    Told { len, refused }
+    Told {
+        refused: check.is_err(),
+        len: put_check(number, octets, check, out),
+    }
 }

@@ -22,6 +22,8 @@ use Rattle.rows.specs.Numbers.{numbers_at}
 use Rattle.rows.specs.declared.columns.Numbers.{Numbers}
 use Rattle.values.specs.Rows.{value_of, sources_of}
 use Rattle.values.specs.declared.row.ValueRow.{ValueRow}
+use Rattle.std.specs.Prelude.{Option as Answered}
+use Rattle.std.specs.Option.{unwrap_or}
 use Rattle.putting.specs.Puts.{writable, puts, PutIf}
 use Rattle.placing.specs.Pieces.{Lent, lent_of}
 use Rattle.walking.specs.Walks.{element_by, elements_then, elements_f, elements_from, Lays}
@@ -42,9 +44,9 @@ module _ (table rows received set : List ℕ) (k iei : ℕ) (row : ValueRow) (e 
     unfolding element_by present
     element-there = rw (← e, le-leb 1 row.source (omega (arith, there)), f-is, n-is, s-is)
 
-    pub element-put : (at : ℕ) (d : List ℕ) {took : ℕ} {ys : List ℕ} → at ≤ length d
-        → PutIf (puts f row.source iei s (take (length d - at) (drop at d))) (encoded f iei s) (take (length d - at) (drop at d)) took ys
-        → Lays (element_by m k iei ∷ []) at d (at + took) (put_mid at (length d - at) d ys)
+    pub element-put : (at : ℕ) (d : List ℕ) {r : Answered ℕ} {ys : List ℕ} → at ≤ length d
+        → PutIf (puts f row.source iei s (take (length d - at) (drop at d))) (encoded f iei s) (take (length d - at) (drop at d)) r ys
+        → Lays (element_by m k iei ∷ []) at d (at + unwrap_or r 0) (put_mid at (length d - at) d ys)
     unfolding puts
     element-put at d h p = rw element-there (lays-put at d h (encoded f iei s) (writable f row.source iei s) p)
 

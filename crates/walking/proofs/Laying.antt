@@ -11,6 +11,8 @@ use lib.Dec.{leb}
 use borrow.Rule.Slice.PartMut.{put_mid, put_same}
 use Rattle.definitions.specs.Basic.{pick, over, over_at, concat}
 use Rattle.definitions.proofs.Lists.{over-next, over_none, lent-over, length-over_at}
+use Rattle.std.specs.Prelude.{Option as Answered}
+use Rattle.std.specs.Option.{unwrap_or}
 use Rattle.putting.specs.Puts.{PutIf}
 use Rattle.walking.specs.Walks.{Laid, laid_at, lay, laid, Lays, Going}
 
@@ -122,14 +124,14 @@ module _ (at : ℕ) (d : List ℕ) (inside : at ≤ length d) where
   lent-long = simp (length-take, length-drop) (omega arith)
 
   -- an element by what putting it says: where it cannot be written it is nothing
-  pub lays-put : (s : List ℕ) (w : Bool) {n : ℕ} {ys : List ℕ} → PutIf (w && leb (length s) (length lent)) s lent n ys → Lays (pick w s [] ∷ []) at d (at + n) (put_mid at (length d - at) d ys)
+  pub lays-put : (s : List ℕ) (w : Bool) {r : Answered ℕ} {ys : List ℕ} → PutIf (w && leb (length s) (length lent)) s lent r ys → Lays (pick w s [] ∷ []) at d (at + unwrap_or r 0) (put_mid at (length d - at) d ys)
   unfolding laid
   lays-put s false p =
       let z : at + 0 ≡ at = omega arith in
       rw (p.takes, p.octets, put_same at (length d - at) d, z) lays-empty
-  lays-put s true {n = n} {ys = ys} p = by (leb (length s) (length lent)) refl p
+  lays-put s true {r = r} {ys = ys} p = by (leb (length s) (length lent)) refl p
     where
-      by : (b : Bool) → leb (length s) (length lent) ≡ b → PutIf b s lent n ys → Lays (s ∷ []) at d (at + n) (put_mid at (length d - at) d ys)
+      by : (b : Bool) → leb (length s) (length lent) ≡ b → PutIf b s lent r ys → Lays (s ∷ []) at d (at + unwrap_or r 0) (put_mid at (length d - at) d ys)
       by true e q =
           let h : at + length s ≤ length d = omega (arith, leb-true (length s) (length lent) e, lent-long) in
           rw (q.takes, q.octets, lent-over at s d (omega arith)) (record { is = sym (lay-yes s (laid_at at d) h) })

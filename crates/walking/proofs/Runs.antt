@@ -5,18 +5,19 @@ use native.Mathlib.Omega.{arith}
 use native.Mathlib.Numerals.{add-one}
 use mathlib.Core.Path.{◌≡◌, refl, ap, sym, ◌∙◌}
 use mathlib.Core.List.{List, [], ◌∷◌, ◌++◌, append_assoc}
-use mathlib.Core.Bool.{Bool, true, false}
+use mathlib.Core.Bool.{true, false}
 use mathlib.Core.Option.{none, some}
-use borrow.Author.Tests.{ltb-true, ltb-false}
 use lib.ListN.{length, get_or, set, drop}
 use lib.Seq.{drop-drop, get_or-drop}
-use lib.Dec.{ltb}
 use Rattle.definitions.specs.Basic.{over, bit}
 use Rattle.definitions.specs.Rows.{rows_of, place_in}
 use Rattle.definitions.proofs.Lists.{front-one}
 use Rattle.definitions.proofs.LogSteps.{rest_of}
 use Rattle.definitions.proofs.BitLaws.{no-bit}
 use Rattle.rows.specs.Numbers.{numbers_at}
+use Rattle.std.specs.Prelude.{Option as Answered, Some, None}
+use Rattle.std.specs.List.{AllWithin, HoldsAt}
+use Rattle.std.specs.Option.{MatchOption, unwrap_or}
 use Rattle.placing.specs.Pieces.{Lent}
 use Rattle.walking.specs.Walks.{element_by, added_piece, added_by, next_of, nexts_of, behind_of, known_by, place_after, pieces_by, elements_from, Laid, laid, RunLaid, KnownLaid, WalkLaid}
 use Rattle.walking.specs.declared.Pen.{Pen}
@@ -26,12 +27,11 @@ use Rattle.walking.proofs.Laying.{lay-nothing, going-as, going_on}
 abbrev pub NoZero : List ℕ → ℕ → Type 0
 NoZero s n = (j : ℕ) → j < n → 1 ≤ get_or s j 0
 
-pub no-zero-more : (s : List ℕ) (n : ℕ) → NoZero s n → 1 ≤ get_or s n 0 → NoZero s (n + 1)
-no-zero-more s n f g j h = by (ltb j n) refl
-  where
-    by : (b : Bool) → ltb j n ≡ b → 1 ≤ get_or s j 0
-    by true e = f j (ltb-true j n e)
-    by false e = let l = ltb-false j n e in let z : j ≡ n = omega arith in rw z g
+-- the position of the first 0, or the length where there is none
+pub aside-by : (s : List ℕ) (r : Answered ℕ) → MatchOption r (AllWithin (λ x. 1 ≤ x) s 0 (length s)) (λ i. (i < length s) × HoldsAt (λ x. x ≡ 0) s i × AllWithin (λ x. 1 ≤ x) s 0 i)
+    → let n = unwrap_or r (length s) in (n ≤ length s) × NoZero s n × (n < length s → get_or s n 0 ≡ 0)
+aside-by s None h = (omega arith, λ j l. h j 0 (omega arith) l, λ l. absurd (omega arith))
+aside-by s (Some i) h = (omega (arith, h.0), λ j l. h.2 j 0 (omega arith) l, λ l. h.1 0)
 
 -- a list of one octet put into the front
 pub one_of : (s d : List ℕ) → length s ≡ 1 → 1 ≤ length d → set d 0 (get_or s 0 0) ≡ over s d

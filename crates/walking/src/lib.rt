@@ -2,7 +2,7 @@
 // piece goes into the rest of the output, where there is room for it: of a message that was measured there is room for all.
 #![tactic(auto)]
 
-ghost use Rattle.std.specs.Prelude.{◌≡◌, [], ◌∷◌, ℕ, ◌-◌, ◌≤◌, ◌<◌, max, length, get_or};
+ghost use Rattle.std.specs.Prelude.{◌≡◌, [], ◌∷◌, ℕ, ◌-◌, ◌≤◌, ◌<◌, length, get_or};
 ghost use Rattle.definitions.specs.Basic.{over};
 ghost use Rattle.placing.specs.Pieces.{lent_of};
 ghost use Rattle.seen.specs.Seen.{set_of};
@@ -12,13 +12,13 @@ use copying::put_slice;
 use kept::{Count, entry_like};
 use putting::put_ie;
 use rows::columns::{form_of, numbers_at, places};
-use rows::index::{Place, place_of};
-use seen::{Seen, seen_has, seen_none};
+use rows::index::place_of;
+use seen::Seen;
 use values::row::{row_at, value_octets};
 
 // Where writing is: the position in the output, the position in the kept log, the place below which every added element is written,
 // and how many octets the last kept element had, as the next is expected to have.
-#[derive(Clone, Copy)]
+#[derive(Clone, Copy, PartialEq, Eq)]
 pub struct Pen {
     pub at: usize,
     pub kept: usize,
@@ -46,13 +46,9 @@ fn put_place<'a>(
     }
     let n = numbers_at(table, place);
     let value = value_octets(received, set, row);
-    at + put_ie(
-        &mut output[at..],
-        form_of(n.code, n.size),
-        row.source,
-        iei,
-        value,
-    )
+    let form = form_of(n.code, n.size);
+    let took = put_ie(&mut output[at..], form, row.source, iei, value);
+    at + took.unwrap_or(0)
 }
 
 // The element of a place under its first IEI, if it is an added one; the position behind it. It does what `put_place` does by itself: a
@@ -70,7 +66,7 @@ fn put_first<'a>(
     requires { at ≤ length output.old }
     ensures { Lays (added_piece (lent_of table.now rows.now received.now set.now) (set_of added) place ∷ []) at output.old result output.new }
 {
-    if !seen_has(added, place) {
+    if !added.has(place) {
         return at;
     }
     let row = row_at(rows, place);
@@ -79,13 +75,15 @@ fn put_first<'a>(
     }
     let n = numbers_at(table, place);
     let value = value_octets(received, set, row);
-    at + put_ie(
+    let form = form_of(n.code, n.size);
+    let took = put_ie(
         &mut output[at..],
-        form_of(n.code, n.size),
+        form,
         row.source,
         (n.first % 256) as u8,
         value,
-    )
+    );
+    at + took.unwrap_or(0)
 }
 
 // The added elements from a place on, up to another, ascending and each under its first IEI; the position behind them.
@@ -104,10 +102,8 @@ fn put_added<'a>(
     ensures { Lays (added_by (lent_of table.now rows.now received.now set.now) (set_of added) from (to - from)) at output.old result output.new }
 {
     let mut next = at;
-    let mut k = from;
-    while k < to {
-        next = put_first(&*table, &*rows, &*received, &*set, added, k, output, next);
-        k += 1;
+    for k in from..to {
+        next = put_first(table, rows, received, set, added, k, output, next);
     }
     next
 }
@@ -127,7 +123,7 @@ fn put_lower<'a>(
     requires { at ≤ length output.old }
     ensures { Lays (added_by (lent_of table.now rows.now received.now set.now) (set_of added) from (to - from)) at output.old result output.new }
 {
-    if seen_none(added) {
+    if added.is_empty() {
         return at;
     }
     put_added(table, rows, received, set, added, from, to, output, at)
@@ -155,41 +151,25 @@ fn put_kept(kept: &[u8], pen: Pen, output: &mut [u8]) -> Pen
     requires { (pen.kept ≤ length kept.now) × (pen.at ≤ length output.old) }
     ensures { NextLaid kept.now pen output.old result output.new }
 {
-    let at = pen.at;
-    let from = pen.kept;
-    match entry_like(&kept[from..], pen.len) {
-        Count::Is(value, took) => {
-            let start = from + took;
-            let end = start + value;
-            let mut next = at;
-            if output.len() - at >= value {
-                put_octets(&mut output[at..], &kept[start..end]);
-                next = at + value;
-            }
-            Pen {
-                at: next,
-                kept: end,
-                place: pen.place,
-                len: value,
-            }
-        }
-        Count::Not => Pen {
-            at,
+    let Some(Count { value, took }) = entry_like(&kept[pen.kept..], pen.len) else {
+        return Pen {
             kept: kept.len(),
-            place: pen.place,
-            len: pen.len,
-        },
+            ..pen
+        };
+    };
+    let mut at = pen.at;
+    let start = pen.kept + took;
+    let end = start + value;
+    if output.len() - at >= value {
+        put_octets(&mut output[at..], &kept[start..end]);
+        at += value;
     }
-}
-
-// The higher of two places.
-fn higher(a: usize, b: usize) -> usize
-    ensures { result ≡ max a b }
-{
-    if a < b {
-        return b;
+    Pen {
+        at,
+        kept: end,
+        len: value,
+        ..pen
     }
-    a
 }
 
 // A known entry: the added elements of lower place, then its own under the logged IEI; nothing of an IEI without a place.
@@ -207,20 +187,16 @@ fn put_known<'a>(
     requires { pen.at ≤ length output.old }
     ensures { KnownLaid (lent_of table.now rows.now received.now set.now) index.now (set_of added) iei pen output.old result output.new }
 {
-    match place_of(index, iei) {
-        Place::At(k) => {
-            let at = put_lower(
-                table, rows, received, set, added, pen.place, k, output, pen.at,
-            );
-            let next = put_place(table, rows, received, set, k, iei, output, at);
-            Pen {
-                at: next,
-                kept: pen.kept,
-                place: higher(pen.place, k),
-                len: pen.len,
-            }
-        }
-        Place::Nowhere => pen,
+    let Some(k) = place_of(index, iei) else {
+        return pen;
+    };
+    let at = put_lower(
+        table, rows, received, set, added, pen.place, k, output, pen.at,
+    );
+    Pen {
+        at: put_place(table, rows, received, set, k, iei, output, at),
+        place: pen.place.max(k),
+        ..pen
     }
 }
 
@@ -228,14 +204,7 @@ fn put_known<'a>(
 fn asides(order: &[u8]) -> usize
     ensures { (result ≤ length order.now) × ((j : ℕ) → j < result → 1 ≤ get_or order.now j 0) × (result < length order.now → get_or order.now result 0 ≡ 0) }
 {
-    let mut n = 0;
-    while n < order.len() {
-        if order[n] == 0 {
-            return n;
-        }
-        n += 1;
-    }
-    n
+    order.iter().position(|&x| x == 0).unwrap_or(order.len())
 }
 
 // The next n kept elements, as far as there are any: those of a run of entries, or all. Called for both, it stays a function of its own,
@@ -245,13 +214,11 @@ fn put_run(kept: &[u8], pen: Pen, n: usize, output: &mut [u8]) -> Pen
     ensures { RunLaid kept.now n pen output.old result output.new }
 {
     let mut p = pen;
-    let mut i = 0;
-    while i < n {
+    for _ in 0..n {
         if p.kept >= kept.len() {
             return p;
         }
         p = put_kept(kept, p, output);
-        i += 1;
     }
     p
 }
@@ -299,8 +266,7 @@ fn put_left(kept: &[u8], pen: Pen, output: &mut [u8]) -> usize
     requires { (pen.kept ≤ length kept.now) × (pen.at ≤ length output.old) }
     ensures { Lays (elements_from kept.now pen.kept) pen.at output.old result output.new }
 {
-    let p = put_run(kept, pen, kept.len(), output);
-    p.at
+    put_run(kept, pen, kept.len(), output).at
 }
 
 // All that a message is written as; the position behind it.
@@ -331,14 +297,5 @@ pub fn write_walk<'a>(
         output,
         pen.at,
     );
-    put_left(
-        kept,
-        Pen {
-            at,
-            kept: pen.kept,
-            place: pen.place,
-            len: pen.len,
-        },
-        output,
-    )
+    put_left(kept, Pen { at, ..pen }, output)
 }

@@ -7,6 +7,7 @@ use mathlib.Core.Bool.{Bool}
 use mathlib.Core.Option.{Option, none, some}
 use lib.ListN.{length, get_or}
 use borrow.Author.Tests.{lt-ltb, le-ltb}
+use Rattle.std.specs.Prelude.{Result, Ok, Err}
 use Rattle.definitions.specs.Basic.{Answer, answer, refusal, unless}
 use Rattle.definitions.specs.Rows.{rows_of, first_bad}
 use Rattle.definitions.specs.Tables.{table_of, start_of}
@@ -17,8 +18,9 @@ use Rattle.definitions.proofs.Whys.{number-map}
 use Rattle.why.specs.Whys.{why_for, why_as, why_in}
 use Rattle.why.specs.declared.Fault.{Fault}
 use Rattle.why.specs.declared.Why.{Why}
+use Rattle.why.specs.declared.WhyError.{WhyError}
 
-why-numbers : (w : DefWhy) → why_as (why_for w) ≡ answer 0 (why_numbers w)
+why-numbers : (w : DefWhy) → why_as (Ok (why_for w)) ≡ answer 0 (why_numbers w)
 why-numbers was_accepted = refl
 why-numbers was_unknown = refl
 why-numbers (was_malformed cut_off) = refl
@@ -38,11 +40,11 @@ number_same (suc n) (e ∷ es) x f g h = number_same n es x (λ bs. f (e ∷ bs)
 -- ---- the checks
 
 module _ (table : List ℕ) (start : ℕ) (option : Bool) (part : List ℕ) (n : ℕ) where
-  pub explaining-bad : (k : ℕ) → first_bad (rows_of table) ≡ some k → why_as (Why.BadTable k) ≡ explaining table start option part n
+  pub explaining-bad : (k : ℕ) → first_bad (rows_of table) ≡ some k → why_as (Err (WhyError.BadTable k)) ≡ explaining table start option part n
   unfolding explaining refusal
   explaining-bad k e = rw e
 
-  pub explaining-long : first_bad (rows_of table) ≡ none → 65535 < length part → why_as Why.TooLong ≡ explaining table start option part n
+  pub explaining-long : first_bad (rows_of table) ≡ none → 65535 < length part → why_as (Err WhyError.TooLong) ≡ explaining table start option part n
   unfolding explaining refusal
   explaining-long e h = rw (e, lt-ltb 65535 (length part) h)
 
@@ -51,7 +53,7 @@ module _ (table : List ℕ) (start : ℕ) (option : Bool) (part : List ℕ) (n :
   explaining-read e h = rw (e, le-ltb 65535 (length part) h) (by (parted (rows_of table) start option part))
     where
       by : (p : Parted) → why_as (why_in (rows_of table) n p) ≡ unless (refusal (cut_of p ∷ [])) (λ a. a) (why_at (rows_of table) (elements_of p) n)
-      by (elements es) = number-map why_as n es Why.NoElement (λ bs e. why_for (why (rows_of table) bs e)) ∙ number_same n es (answer 27 []) (λ bs e. why_as (why_for (why (rows_of table) bs e))) (λ bs e. answer 0 (why_numbers (why (rows_of table) bs e))) (λ bs e. why-numbers (why (rows_of table) bs e))
+      by (elements es) = number-map why_as n es (Err WhyError.NoElement) (λ bs e. Ok (why_for (why (rows_of table) bs e))) ∙ number_same n es (answer 27 []) (λ bs e. why_as (Ok (why_for (why (rows_of table) bs e)))) (λ bs e. answer 0 (why_numbers (why (rows_of table) bs e))) (λ bs e. why-numbers (why (rows_of table) bs e))
       by (cut_short a x k m) = refl
 
 -- by the table that a number names, or none
@@ -75,29 +77,29 @@ ground-back (suc (suc zero)) g = Why.Malformed (fault-back g)
 ground-back (suc (suc (suc zero))) g = Why.Repeated g
 ground-back (suc (suc (suc (suc n)))) g = Why.OutOfSequence g
 
-why-back : ℕ → List ℕ → Why
-why-back zero vs = ground-back (get_or vs 0 0) (get_or vs 1 0)
-why-back (suc zero) vs = Why.CutShort (get_or vs 0 0) (get_or vs 1 0) (get_or vs 2 0) (get_or vs 3 0)
-why-back (suc (suc zero)) vs = Why.NoTable
-why-back (suc (suc (suc zero))) vs = Why.TooLong
-why-back (suc (suc (suc (suc zero)))) vs = Why.BadTable (get_or vs 0 0)
-why-back (suc (suc (suc (suc (suc zero))))) vs = Why.NoTable
-why-back (suc (suc (suc (suc (suc (suc n)))))) vs = Why.NoElement
+why-back : ℕ → List ℕ → Result Why WhyError
+why-back zero vs = Ok (ground-back (get_or vs 0 0) (get_or vs 1 0))
+why-back (suc zero) vs = Err (WhyError.CutShort (record { start = get_or vs 0 0; first = get_or vs 1 0; left = get_or vs 2 0; missing = get_or vs 3 0 }))
+why-back (suc (suc zero)) vs = Err WhyError.NoTable
+why-back (suc (suc (suc zero))) vs = Err WhyError.TooLong
+why-back (suc (suc (suc (suc zero)))) vs = Err (WhyError.BadTable (get_or vs 0 0))
+why-back (suc (suc (suc (suc (suc zero))))) vs = Err WhyError.NoTable
+why-back (suc (suc (suc (suc (suc (suc n)))))) vs = Err WhyError.NoElement
 
-why-found : (w : Why) → why-back (why_as w).number (why_as w).values ≡ w
+why-found : (w : Result Why WhyError) → why-back (why_as w).number (why_as w).values ≡ w
 unfolding why-back ground-back fault-back
-why-found Why.Accepted = refl
-why-found Why.Unknown = refl
-why-found (Why.Malformed Fault.CutShort) = refl
-why-found (Why.Malformed Fault.UnderLeast) = refl
-why-found (Why.Malformed Fault.KindBarred) = refl
-why-found (Why.Repeated at) = refl
-why-found (Why.OutOfSequence at) = refl
-why-found Why.NoElement = refl
-why-found (Why.CutShort a x n k) = refl
-why-found Why.TooLong = refl
-why-found (Why.BadTable k) = refl
-why-found Why.NoTable = refl
+why-found (Ok Why.Accepted) = refl
+why-found (Ok Why.Unknown) = refl
+why-found (Ok (Why.Malformed Fault.CutShort)) = refl
+why-found (Ok (Why.Malformed Fault.UnderLeast)) = refl
+why-found (Ok (Why.Malformed Fault.KindBarred)) = refl
+why-found (Ok (Why.Repeated at)) = refl
+why-found (Ok (Why.OutOfSequence at)) = refl
+why-found (Err WhyError.NoElement) = refl
+why-found (Err (WhyError.CutShort c)) = refl
+why-found (Err WhyError.TooLong) = refl
+why-found (Err (WhyError.BadTable k)) = refl
+why-found (Err WhyError.NoTable) = refl
 
-pub same-why : (a b : Why) → why_as a ≡ why_as b → a ≡ b
+pub same-why : (a b : Result Why WhyError) → why_as a ≡ why_as b → a ≡ b
 same-why a b e = sym (why-found a) ∙ ap (λ (x : Answer). why-back x.number x.values) e ∙ why-found b

@@ -10,7 +10,8 @@ use mathlib.Core.Option.{Option, none, some}
 use lib.ListN.{length, get_or, set, take, drop, length-set, length-append}
 use lib.Seq.{get_or-set_same, get_or-set_other}
 use lib.Dec.{eqb, ltb}
-use borrow.Author.Tests.{eqb-true, eqb-false, ltb-true, ltb-false, lt-ltb, le-ltb}
+use borrow.Author.Tests.{eqb-true, eqb-false, ltb-true, ltb-false, lt-ltb}
+use Rattle.std.specs.Prelude.{Option as Answered, Some, None, Result, Ok, Err}
 use Rattle.definitions.specs.Basic.{pick, bit}
 use Rattle.definitions.specs.Rows.{Row, rows_of, row_at, form, iei_of}
 use Rattle.definitions.specs.Elements.{Verdict, accepted, unknown, malformed, repeated, out_of_sequence, Element as DefElement, iei_at, is_at, known, stranger, Met, Parted, elements, cut_short, before, parted}
@@ -18,16 +19,19 @@ use Rattle.definitions.specs.Why.{Fault as DefFault, first_at, highest_of, fault
 use Rattle.definitions.proofs.Steps.{Stands, strange, placed}
 use Rattle.definitions.proofs.Whys.{any_at, Tallies, tallies-none, tallies-next, any_last, highest-last, first-before, first-here, highest-any, Held, taken-so, no_place, not_taken, was-met, was-below, stands-held, why-only, why-placed, number-before, number-here, number-none}
 use Rattle.order.specs.declared.Placed.{Placed}
+use Rattle.order.specs.declared.IgnoredIeReason.{IgnoredIeReason}
 use Rattle.rows.specs.Indexed.{Indexed}
 use Rattle.rows.specs.Numbers.{numbers_at, row_said}
 use Rattle.seen.specs.Seen.{set_of}
-use Rattle.elements.specs.Steps.{element_of, met_of, placed_for}
+use Rattle.elements.specs.Steps.{element_of, met_of, place_of, placed_for}
 use Rattle.elements.specs.Nexts.{start_state}
 use Rattle.elements.specs.declared.element.State.{State}
 use Rattle.elements.specs.declared.element.Element.{Element}
+use Rattle.elements.specs.declared.element.Cut.{Cut}
 use Rattle.elements.proofs.Nexts.{from, Nexts, from_start}
 use Rattle.why.specs.Whys.{fault_for, why_for, why_among, why_in, entered, start_at, placed_by, ground_by}
 use Rattle.why.specs.declared.Why.{Why}
+use Rattle.why.specs.declared.WhyError.{WhyError}
 
 -- ---- the elements met, before what is left
 
@@ -70,15 +74,14 @@ at_none k d e = rw e
 
 module _ (starts : List ℕ) (es : List DefElement) (places : ℕ) (tallied : (k : ℕ) → bit k places ≡ any_at k es) (size : length starts ≡ 128) (h : Firsts starts es) (d : DefElement) where
   -- an element without a place
-  firsts-none : (n : ℕ) → 128 ≤ n → d.place ≡ none → Firsts (entered places n d.at starts) (es ++ (d ∷ []))
-  unfolding entered
-  firsts-none n l e k g a =
+  firsts-none : d.place ≡ none → Firsts starts (es ++ (d ∷ []))
+  firsts-none e k g a =
       let p : (is_at k d || any_at k es) ≡ true = sym (any_last k es d) ∙ a in
       let q : any_at k es ≡ true = rw (at_none k d e) at p in
-      rw (le-ltb n 128 l) (h k g q ∙ sym (first-before k es d q))
+      h k g q ∙ sym (first-before k es d q)
 
   -- one with the place j
-  firsts-some : (j : ℕ) → j < 128 → d.place ≡ some j → Firsts (entered places j d.at starts) (es ++ (d ∷ []))
+  firsts-some : (j : ℕ) → j < 128 → d.place ≡ some j → Firsts (entered places (Some j) d.at starts) (es ++ (d ∷ []))
   unfolding entered
   firsts-some j l e k g a = by (eqb j k) (any_at k es) (bit j places) refl refl refl
     where
@@ -106,11 +109,18 @@ module _ (starts : List ℕ) (es : List DefElement) (places : ℕ) (tallied : (k
 
 -- ---- the pass
 
+-- what is told of an element that is not met yet, and of one that is
+abbrev absent : Result Why WhyError
+absent = Err WhyError.NoElement
+
+abbrev told_of : List Row → List DefElement → DefElement → Result Why WhyError
+told_of t bs d = Ok (why_for (why t bs d))
+
 module _ (table index : List ℕ) (i : Indexed table index) (start : ℕ) (option : Bool) (part : List ℕ) (number : ℕ) where
   abbrev t : List Row
   t = rows_of table
 
-  pub record Walking (s : State) (starts : List ℕ) (w : Why) (count : ℕ) : Type 0 where
+  pub record Walking (s : State) (starts : List ℕ) (w : Result Why WhyError) (count : ℕ) : Type 0 where
     pub met : List DefElement
     pub parts : parted t start option part ≡ befores met (from t start option part s)
     pub tallies : Tallies met (met_of s)
@@ -122,7 +132,7 @@ module _ (table index : List ℕ) (i : Indexed table index) (start : ℕ) (optio
     pub firsts : Firsts starts met
     pub tells : w ≡ why_among t number met
 
-  pub walked_start : (s : State) (starts : List ℕ) → s ≡ start_state → length starts ≡ 128 → Walking s starts Why.NoElement 0
+  pub walked_start : (s : State) (starts : List ℕ) → s ≡ start_state → length starts ≡ 128 → Walking s starts absent 0
   unfolding befores any_at
   walked_start s starts e h =
       rw e (record {
@@ -135,15 +145,16 @@ module _ (table index : List ℕ) (i : Indexed table index) (start : ℕ) (optio
         low = omega arith;
         size = h;
         firsts = λ k g a. let z : ◌≡◌ {A = ℕ} 0 1 = cc in absurd (omega arith);
-        tells = sym (number-none number [] Why.NoElement (λ bs d. why_for (why t bs d)) (omega arith));
+        tells = sym (number-none number [] absent (told_of t) (omega arith));
       })
 
   -- at the end of the part, and at a cut
-  pub walked_end : {s : State} {starts : List ℕ} {w : Why} {count : ℕ} → Walking s starts w count → from t start option part s ≡ elements [] → w ≡ why_in t number (parted t start option part)
+  pub walked_end : {s : State} {starts : List ℕ} {w : Result Why WhyError} {count : ℕ} → Walking s starts w count → from t start option part s ≡ elements [] → w ≡ why_in t number (parted t start option part)
   walked_end h e = h.tells ∙ ap (why_in t number) (sym (h.parts ∙ ap (befores h.met) e ∙ befores-end h.met))
 
-  pub walked-cut : {s : State} {starts : List ℕ} {w : Why} {count a x n k : ℕ} → Walking s starts w count → from t start option part s ≡ cut_short a x n k → Why.CutShort a x n k ≡ why_in t number (parted t start option part)
-  walked-cut {a = a} {x = x} {n = n} {k = k} h e = ap (why_in t number) (sym (h.parts ∙ ap (befores h.met) e ∙ befores-cut h.met a x n k))
+  pub walked-cut : {s : State} {starts : List ℕ} {w : Result Why WhyError} {count : ℕ} {c : Cut} → Walking s starts w count → from t start option part s ≡ cut_short c.start c.first c.left c.missing
+      → Err (WhyError.CutShort c) ≡ why_in t number (parted t start option part)
+  walked-cut {c = c} h e = ap (why_in t number) (sym (h.parts ∙ ap (befores h.met) e ∙ befores-cut h.met c.start c.first c.left c.missing))
 
   -- ---- an element
 
@@ -159,13 +170,13 @@ module _ (table index : List ℕ) (i : Indexed table index) (start : ℕ) (optio
   unfolding fault_in form
   fault-same k s = rw (i.whole.code k, i.whole.size k, i.whole.least k)
 
-  module _ (s v : State) (e : Element) (starts : List ℕ) (w : Why) (count : ℕ) (h : Walking s starts w count) (n : Nexts t start option part s e v) where
+  module _ (s v : State) (e : Element) (starts : List ℕ) (w : Result Why WhyError) (count : ℕ) (h : Walking s starts w count) (n : Nexts t start option part s e v) where
     abbrev d : DefElement
     d = n.element
 
-    place_is : (k : ℕ) → d.place ≡ some k → e.place ≡ k
+    place_is : (o : Option ℕ) → d.place ≡ o → e.place ≡ place_of o
     unfolding element_of
-    place_is k q = ap (λ (x : Element). x.place) n.is ∙ ap (λ (o : Option ℕ). Option.get_or o 255) q
+    place_is o q = ap (λ (x : Element). x.place) n.is ∙ ap place_of q
 
     octets-are : take e.len (drop e.start part) ≡ d.octets
     octets-are = ap (λ (x : ℕ). take e.len (drop x part)) n.starts ∙ sym n.octets
@@ -179,28 +190,33 @@ module _ (table index : List ℕ) (i : Indexed table index) (start : ℕ) (optio
     unfolding why_by
     ground-is = by d.verdict refl (stands-held n.stands)
       where
-        at_code : (u : Verdict) → d.verdict ≡ u → ground_by part table starts s.highest e ≡ placed_by d.octets (row_said (numbers_at table e.place)) starts s.highest e.place (placed_for (iei_at d) u)
-        at_code u q = ap₂ (λ (o : List ℕ) (p : Placed). placed_by o (row_said (numbers_at table e.place)) starts s.highest e.place p) octets-are (placed-is u q)
+        at_code : (u : Verdict) → d.verdict ≡ u → ground_by part table starts s.highest e ≡ placed_by d.octets table starts s.highest e.place (placed_for (iei_at d) u)
+        at_code u q = ap₂ (λ (o : List ℕ) (p : Placed). placed_by o table starts s.highest e.place p) octets-are (placed-is u q)
+
+        aside_code : (u : Verdict) (k : ℕ) (r : IgnoredIeReason) → d.verdict ≡ u → d.place ≡ some k → placed_for (iei_at d) u ≡ Placed.Ignored r
+            → ground_by part table starts s.highest e ≡ placed_by d.octets table starts s.highest (Some k) (Placed.Ignored r)
+        aside_code u k r q p f = at_code u q ∙ ap₂ (placed_by d.octets table starts s.highest) (place_is (some k) p) f
 
         by : (u : Verdict) → d.verdict ≡ u → Held t (met_of s) d u → ground_by part table starts s.highest e ≡ why_for (why t h.met d)
         by accepted q taken-so = at_code accepted q ∙ ap why_for (sym (why-only t h.met d accepted q))
         by unknown q no_place = at_code unknown q ∙ ap why_for (sym (why-only t h.met d unknown q))
         by malformed q (not_taken k o p r f) =
-            at_code malformed q
-            ∙ ap (λ (x : ℕ). Why.Malformed (fault_for (fault_in (row_said (numbers_at table x)) d.octets))) (place_is k p)
+            aside_code malformed k IgnoredIeReason.Malformed q p refl
             ∙ ap (λ (x : DefFault). Why.Malformed (fault_for x)) (fault-same k d.octets)
             ∙ ap why_for (sym (why-placed t h.met d k malformed p q))
         by repeated q (was-met k p f) =
             let g : get_or starts k 0 ≡ first_at k h.met = h.firsts k (place-low n.stands k p) (sym (h.tallies.places k) ∙ f) in
-            at_code repeated q
-            ∙ ap Why.Repeated (ap (start_at starts) (place_is k p) ∙ start-at starts k (place-low n.stands k p) ∙ g)
+            aside_code repeated k IgnoredIeReason.Repeated q p refl
+            ∙ ap Why.Repeated (start-at starts k (place-low n.stands k p) ∙ g)
             ∙ ap why_for (sym (why-placed t h.met d k repeated p q))
         by out_of_sequence q (was-below k p f) =
             let l : k < highest_of h.met = rw h.tallies.highest at f in
             let a : any_at s.highest h.met ≡ true = rw h.tallies.highest (highest-any h.met (omega arith)) in
             let g : get_or starts s.highest 0 ≡ first_at (highest_of h.met) h.met =
             h.firsts s.highest h.low a ∙ ap (λ (x : ℕ). first_at x h.met) h.tallies.highest in
-            at_code out_of_sequence q ∙ ap Why.OutOfSequence (start-at starts s.highest h.low ∙ g) ∙ ap why_for (sym (why-placed t h.met d k out_of_sequence p q))
+            aside_code out_of_sequence k IgnoredIeReason.OutOfSequence q p refl
+            ∙ ap Why.OutOfSequence (start-at starts s.highest h.low ∙ g)
+            ∙ ap why_for (sym (why-placed t h.met d k out_of_sequence p q))
 
     -- ---- the state behind it
 
@@ -223,41 +239,46 @@ module _ (table index : List ℕ) (i : Indexed table index) (start : ℕ) (optio
 
     entered-long : length (entered (set_of s.seen) e.place e.start starts) ≡ 128
     unfolding entered
-    entered-long = by (ltb e.place 128 && not (bit e.place (set_of s.seen)))
+    entered-long = by e.place
       where
-        by : (b : Bool) → length (pick b (set starts e.place e.start) starts) ≡ 128
-        by true = length-set starts e.place e.start ∙ h.size
-        by false = h.size
+        of : (k : ℕ) (b : Bool) → length (pick b (set starts k e.start) starts) ≡ 128
+        of k true = length-set starts k e.start ∙ h.size
+        of k false = h.size
+
+        by : (o : Answered ℕ) → length (entered (set_of s.seen) o e.start starts) ≡ 128
+        by None = h.size
+        by (Some k) = of k (ltb k 128 && not (bit k (set_of s.seen)))
 
     start_is : e.start ≡ d.at
     unfolding element_of
     start_is = ap (λ (x : Element). x.start) n.is
 
     now-firsts : Firsts (entered (set_of s.seen) e.place e.start starts) more
-    unfolding element_of
+    unfolding entered
     now-firsts = by d.place refl
       where
-        by : (o : Option ℕ) → d.place ≡ o → Firsts (entered (set_of s.seen) e.place e.start starts) more
-        by none q =
-            let a : e.place ≡ 255 = ap (λ (x : Element). x.place) n.is ∙ ap (λ (o : Option ℕ). Option.get_or o 255) q in
-            λ k g b. ap₂ (λ (x y : ℕ). get_or (entered (set_of s.seen) x y starts) k 0) a start_is ∙ firsts-none starts h.met (set_of s.seen) h.tallies.places h.size h.firsts d 255 (omega arith) q k g b
-        by (some j) q = λ k g b. ap₂ (λ (x y : ℕ). get_or (entered (set_of s.seen) x y starts) k 0) (place_is j q) start_is ∙ firsts-some starts h.met (set_of s.seen) h.tallies.places h.size h.firsts d j (place-low n.stands j q) q k g b
+        at_code : (o : Option ℕ) → d.place ≡ o → (k : ℕ) → get_or (entered (set_of s.seen) e.place e.start starts) k 0 ≡ get_or (entered (set_of s.seen) (place_of o) d.at starts) k 0
+        at_code o q k = ap₂ (λ (x : Answered ℕ) (y : ℕ). get_or (entered (set_of s.seen) x y starts) k 0) (place_is o q) start_is
 
-    module _ (w' : Why) (here : count ≡ number → w' ≡ ground_by part table starts s.highest e) (else : (count ≡ number → ⊥) → w' ≡ w) where
+        by : (o : Option ℕ) → d.place ≡ o → Firsts (entered (set_of s.seen) e.place e.start starts) more
+        by none q = λ k g b. at_code none q k ∙ firsts-none starts h.met (set_of s.seen) h.tallies.places h.size h.firsts d q k g b
+        by (some j) q = λ k g b. at_code (some j) q k ∙ firsts-some starts h.met (set_of s.seen) h.tallies.places h.size h.firsts d j (place-low n.stands j q) q k g b
+
+    module _ (w' : Result Why WhyError) (here : count ≡ number → w' ≡ Ok (ground_by part table starts s.highest e)) (else : (count ≡ number → ⊥) → w' ≡ w) where
       now-tells : w' ≡ why_among t number more
       now-tells = by (eqb count number) (ltb number count) refl refl
         where
           by : (a b : Bool) → eqb count number ≡ a → ltb number count ≡ b → w' ≡ why_among t number more
           by true b p q =
               let l : count ≡ number = eqb-true count number p in
-              here l ∙ ground-is ∙ sym (number-here number h.met d Why.NoElement (λ bs c. why_for (why t bs c)) (sym h.counted ∙ l))
-          by false true p q = else (eqb-false count number p) ∙ h.tells ∙ sym (number-before number h.met d Why.NoElement (λ bs c. why_for (why t bs c)) (omega (arith, ltb-true number count q, h.counted)))
+              here l ∙ ap Ok ground-is ∙ sym (number-here number h.met d absent (told_of t) (sym h.counted ∙ l))
+          by false true p q = else (eqb-false count number p) ∙ h.tells ∙ sym (number-before number h.met d absent (told_of t) (omega (arith, ltb-true number count q, h.counted)))
           by false false p q =
               let l : count < number = let x = eqb-false count number p in omega (arith, ltb-false number count q) in
               else (eqb-false count number p)
               ∙ h.tells
-              ∙ number-none number h.met Why.NoElement (λ bs c. why_for (why t bs c)) (omega (arith, h.counted))
-              ∙ sym (number-none number more Why.NoElement (λ bs c. why_for (why t bs c)) (omega (arith, h.counted, length-append h.met (d ∷ []))))
+              ∙ number-none number h.met absent (told_of t) (omega (arith, h.counted))
+              ∙ sym (number-none number more absent (told_of t) (omega (arith, h.counted, length-append h.met (d ∷ []))))
 
       pub walked : Walking v (entered (set_of s.seen) e.place e.start starts) w' (count + 1)
       walked =

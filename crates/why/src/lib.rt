@@ -11,18 +11,17 @@ ghost use Rattle.rows.specs.Numbers.{row_said};
 ghost use Rattle.seen.specs.Seen.{set_of};
 ghost use Rattle.why.specs.Whys.{fault_for, why_in, why_as, entered, start_at, aside_by, ground_by};
 
-use checks::{Checked, check_and_index};
-use elements::element::{Element, Step, element_step, frame};
+use checks::{BadRow, check_and_index};
+use elements::element::{Cut, Element, element_step, frame};
 use elements::next::start_state;
-use length::Length;
-use numbered::{Loaded, TLVE_START, load};
 use octets::{MOST_OCTETS, part};
 use order::{IgnoredIeReason, Placed};
+use real::{TLVE_START, numbered};
 use rows::columns::{Numbers, form_of, numbers_at};
-use seen::{Seen, seen_has};
+use seen::Seen;
 
 // What is wrong with a malformed element, the first that is true.
-#[derive(Clone, Copy)]
+#[derive(Clone, Copy, PartialEq, Eq)]
 pub enum Fault {
     CutShort,
     UnderLeast,
@@ -30,56 +29,75 @@ pub enum Fault {
 }
 
 // How an element came and why: of a malformed one its fault; of a repeated one the start of the first element of its place; of one
-// out of sequence the start of the first element of the highest place met before it. Or a refusal: there is no such element; the
-// part is cut short, by start, first octet, octets to the end and octets missing; it is too long; the table fails its check; no
-// table has the number.
-#[derive(Clone, Copy)]
+// out of sequence the start of the first element of the highest place met before it.
+#[derive(Clone, Copy, PartialEq, Eq)]
 pub enum Why {
     Accepted,
     Unknown,
     Malformed(Fault),
     Repeated(usize),
     OutOfSequence(usize),
+}
+
+// Why that is not told: there is no such element; the part is cut short, or too long; the table fails its check; no table has the number.
+#[derive(Clone, Copy, PartialEq, Eq)]
+pub enum WhyError {
     NoElement,
-    CutShort(usize, u8, usize, usize),
+    CutShort(Cut),
     TooLong,
     BadTable(usize),
     NoTable,
+}
+
+impl From<Cut> for WhyError {
+    ghost use Rattle.why.specs.declared.WhyError.{WhyError};
+
+    ghost from_gives = { λ cut e. e ≡ WhyError.CutShort cut };
+
+    fn from(cut: Cut) -> WhyError {
+        WhyError::CutShort(cut)
+    }
+}
+
+impl From<BadRow> for WhyError {
+    ghost use Rattle.why.specs.declared.WhyError.{WhyError};
+
+    ghost from_gives = { λ bad e. e ≡ WhyError.BadTable bad.0 };
+
+    fn from(bad: BadRow) -> WhyError {
+        WhyError::BadTable(bad.0)
+    }
 }
 
 // What is wrong with an element, by its own octets and its row.
 fn fault_in(element: &[u8], row: Numbers) -> Fault
     ensures { result ≡ fault_for (fault_in (row_said row) element.now) }
 {
-    match frame(form_of(row.code, row.size), element) {
-        Length::CutShort => Fault::CutShort,
-        Length::Octets(_) => {
-            if element.len() < row.least {
-                return Fault::UnderLeast;
-            }
-            Fault::KindBarred
-        }
+    if frame(form_of(row.code, row.size), element).is_none() {
+        return Fault::CutShort;
     }
+    if element.len() < row.least {
+        return Fault::UnderLeast;
+    }
+    Fault::KindBarred
 }
 
 // The start of the first element of a place.
 fn start_of(starts: &[usize; 128], place: usize) -> usize
     ensures { result ≡ start_at starts.now place }
 {
-    if place < 128 {
-        return starts[place];
-    }
-    0
+    starts.get(place).copied().unwrap_or(0)
 }
 
-// Enters the start of an element, if it is the first of its place.
-fn enter(starts: &mut [usize; 128], seen: Seen, place: usize, start: usize)
+// Enters the start of an element that has a place, if it is the first of it.
+fn enter(starts: &mut [usize; 128], seen: Seen, place: Option<usize>, start: usize)
     ensures { starts.new ≡ entered (set_of seen) place start starts.old }
 {
-    if place < 128 {
-        if !seen_has(seen, place) {
-            starts[place] = start;
-        }
+    let Some(place) = place else {
+        return;
+    };
+    if place < 128 && !seen.has(place) {
+        starts[place] = start;
     }
 }
 
@@ -104,18 +122,17 @@ fn aside(
 fn ground(octets: &[u8], table: &[u32], starts: &[usize; 128], highest: usize, e: Element) -> Why
     ensures { result ≡ ground_by octets.now table.now starts.now highest e }
 {
-    let placed = e.placed;
-    match placed {
-        Placed::Known(_) => Why::Accepted,
-        Placed::Unknown => Why::Unknown,
-        Placed::Ignored(reason) => aside(
+    match (e.placed, e.place) {
+        (Placed::Known(_), _) => Why::Accepted,
+        (Placed::Ignored(reason), Some(place)) => aside(
             part(octets, e.start, e.len),
-            numbers_at(table, e.place),
+            numbers_at(table, place),
             starts,
             highest,
-            e.place,
+            place,
             reason,
         ),
+        (Placed::Unknown, _) | (Placed::Ignored(_), None) => Why::Unknown,
     }
 }
 
@@ -127,33 +144,23 @@ fn walk(
     tlve_start: u8,
     option: bool,
     number: usize,
-) -> Why
+) -> Result<Why, WhyError>
     requires { Indexed table.now index.now × (length octets.now ≤ 65535) }
     ensures { result ≡ why_in (rows_of table.now) number (parted (rows_of table.now) tlve_start option octets.now) }
 {
     let mut starts = [0usize; 128];
     let mut state = start_state();
-    let mut why = Why::NoElement;
+    let mut why = Err(WhyError::NoElement);
     let mut count = 0;
-    loop {
-        match element_step(octets, table, index, tlve_start, option, state) {
-            Step::Next(e, next) => {
-                if count == number {
-                    why = ground(octets, table, &starts, state.highest, e);
-                }
-                let seen = state.seen;
-                enter(&mut starts, seen, e.place, e.start);
-                state = next;
-                count += 1;
-            }
-            Step::Cut(start, x, left, missing) => {
-                return Why::CutShort(start, x, left, missing);
-            }
-            Step::End => {
-                return why;
-            }
+    while let Some((e, next)) = element_step(octets, table, index, tlve_start, option, state)? {
+        if count == number {
+            why = Ok(ground(octets, table, &starts, state.highest, e));
         }
+        enter(&mut starts, state.seen, e.place, e.start);
+        state = next;
+        count += 1;
     }
+    why
 }
 
 // By a table that passes its check, and its index.
@@ -164,14 +171,14 @@ fn why_by_index(
     tlve_start: u8,
     option: bool,
     number: usize,
-) -> Why
+) -> Result<Why, WhyError>
     requires { Indexed table.now index.now × (first_bad (rows_of table.now) ≡ none) }
     ensures { why_as result ≡ explaining table.now tlve_start option octets.now number }
 {
     if octets.len() > MOST_OCTETS {
-        return Why::TooLong;
+        return Err(WhyError::TooLong);
     }
-    walk(&*octets, &*table, &*index, tlve_start, option, number)
+    walk(octets, table, index, tlve_start, option, number)
 }
 
 // Why the element of a number, from 0, came as it did, by a lent table.
@@ -181,31 +188,30 @@ pub fn why_set_aside(
     tlve_start: u8,
     out_of_sequence: bool,
     number: usize,
-) -> Why
+) -> Result<Why, WhyError>
     ensures { why_as result ≡ explaining table.now tlve_start out_of_sequence octets.now number }
 {
     let mut index = [255u8; 256];
-    match check_and_index(table, &mut index) {
-        Checked::Passes => why_by_index(octets, table, &index, tlve_start, out_of_sequence, number),
-        Checked::BadRow(k) => Why::BadTable(k),
-    }
+    check_and_index(table, &mut index)?;
+    why_by_index(octets, table, &index, tlve_start, out_of_sequence, number)
 }
 
 // The same by table number: 0 is P, 1 to 6 the real tables.
-pub fn why_set_aside_by(number: u32, octets: &[u8], out_of_sequence: bool, element: usize) -> Why
+pub fn why_set_aside_by(
+    number: u32,
+    octets: &[u8],
+    out_of_sequence: bool,
+    element: usize,
+) -> Result<Why, WhyError>
     ensures { why_as result ≡ explaining_by number out_of_sequence octets.now element }
 {
-    let mut table = [0u32; 400];
-    let mut index = [255u8; 256];
-    match load(number, &mut table, &mut index) {
-        Loaded::Table(n) => why_by_index(
-            octets,
-            &table[..n],
-            &index,
-            TLVE_START,
-            out_of_sequence,
-            element,
-        ),
-        Loaded::NoTable => Why::NoTable,
-    }
+    let table = numbered(number).ok_or(WhyError::NoTable)?;
+    why_by_index(
+        octets,
+        table.rows,
+        table.index,
+        TLVE_START,
+        out_of_sequence,
+        element,
+    )
 }

@@ -11,7 +11,7 @@ ghost use Rattle.wording.specs.Puts.{Put, said};
 ghost use Rattle.wording.specs.Lines.{line_of};
 
 use crate::put::{put, put_cut, put_decimal, put_end, put_line, put_octet};
-use elements::element::Element;
+use elements::element::{Cut, Element};
 
 // A part over so many octets has the text `too long`.
 pub const MOST_LISTED: usize = 4096;
@@ -58,21 +58,14 @@ pub fn say_line(out: &mut [u8], used: usize, e: Element) -> usize
     put_line(out, used, e)
 }
 
-// The line of a part that is cut short at an element with the first octet x.
-pub fn say_cut(
-    out: &mut [u8],
-    used: usize,
-    start: usize,
-    x: u8,
-    left: usize,
-    missing: usize,
-) -> usize
-    ensures { Put out.old used (said used (listed 0 (cut_short start x left missing))) out.new result }
+// The line of a part that is cut short at an element.
+pub fn say_cut(out: &mut [u8], used: usize, cut: Cut) -> usize
+    ensures { Put out.old used (said used (listed 0 (cut_short cut.start cut.first cut.left cut.missing))) out.new result }
 {
     if used >= LIMIT {
         return used;
     }
-    put_cut(out, used, start, x, left, missing)
+    put_cut(out, used, cut)
 }
 
 // The line behind the last element of n octets.

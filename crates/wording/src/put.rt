@@ -6,7 +6,7 @@ ghost use Rattle.wording.specs.Puts.{Put};
 ghost use Rattle.wording.specs.Lines.{word_of, reason_word, line_of};
 
 use copying::put_slice;
-use elements::element::{Element, iei_of};
+use elements::element::{Cut, Element, iei_of};
 use order::{IgnoredIeReason, Placed};
 
 pub(crate) fn put(out: &mut [u8], used: usize, text: &[u8]) -> usize
@@ -108,25 +108,18 @@ pub(crate) fn put_line(out: &mut [u8], used: usize, e: Element) -> usize
     put_octet(out, h, b'\n')
 }
 
-// The line of a part that is cut short at an element with the first octet x.
-pub(crate) fn put_cut(
-    out: &mut [u8],
-    used: usize,
-    start: usize,
-    x: u8,
-    left: usize,
-    missing: usize,
-) -> usize
+// The line of a part that is cut short at an element.
+pub(crate) fn put_cut(out: &mut [u8], used: usize, cut: Cut) -> usize
     requires { used < 2 ^ 30 }
-    ensures { Put out.old used (listed 0 (cut_short start x left missing)) out.new result }
+    ensures { Put out.old used (listed 0 (cut_short cut.start cut.first cut.left cut.missing)) out.new result }
 {
     let a = put(out, used, b"cut at ");
-    let b = put_decimal(out, a, start);
+    let b = put_decimal(out, a, cut.start);
     let c = put(out, b, b" iei ");
-    let d = put_hex(out, c, iei_of(x));
+    let d = put_hex(out, c, iei_of(cut.first));
     let f = put(out, d, b" octets ");
-    let g = put_decimal(out, f, left);
-    put_missing(out, g, missing)
+    let g = put_decimal(out, f, cut.left);
+    put_missing(out, g, cut.missing)
 }
 
 // The end of that line: the octets missing.

@@ -14,18 +14,20 @@ use Rattle.definitions.specs.Rows.{rows_of, first_bad, index}
 use Rattle.definitions.specs.Writing.{Wrote, writing}
 use Rattle.kept.specs.Kept.{used_of}
 use Rattle.placing.specs.Pieces.{lent_of, WroteBy, capacity}
-use Rattle.placing.specs.declared.Passed.{Passed}
 use Rattle.placing.proofs.Pieces.{none-not}
 use Rattle.one_pass.specs.Passes.{passed_by, short_by}
 use Rattle.one_pass.proofs.Outputs.{WroteAll, wrote-all, short-enough}
 use Rattle.one_pass.proofs.Written.{wholly}
 use Rattle.measured_writing.specs.Encodes.{Encodes, used_up, Limited}
-use Rattle.measured_writing.specs.declared.encode.Encoded.{Encoded}
+use Rattle.checks.specs.Answers.{checked_as}
+use Rattle.checks.specs.declared.BadRow.{BadRow}
 use Rattle.measured_writing.proofs.Encoding.{moved, done, not-long, limited, by-content}
+use Rattle.std.specs.Prelude.{Option as Answered, Some, None, Result, Ok, Err}
+use Rattle.std.specs.Result.{result_ok}
 use Rattle.writing.specs.Passing.{most_passed, passable, shortly, WroteShort, Plainly}
 
 pub passed-done : (table entries rows received set kept order output : List ℕ) → Limited table entries rows received set kept order → {n : ℕ} {after : List ℕ}
-    → WroteAll (lent_of table rows received set) entries order kept output n after → Encodes (writing table rows received (used_up set) (used_up order) (used_up kept) output) (Encoded.Done n) after
+    → WroteAll (lent_of table rows received set) entries order kept output n after → Encodes (writing table rows received (used_up set) (used_up order) (used_up kept) output) (Ok n) after
 passed-done table entries rows received set kept order output l {n = n} w =
     let e : passed_by (lent_of table rows received set) (index (rows_of table)) order kept ≡ some w.octets = rw l.sized.indexed at w.passed_is in
     let y = wholly table rows received set order kept l.sized.passes e in
@@ -39,7 +41,7 @@ unfolding content
 few-kept s n e = let h = (not-long most_passed s n e).1 in simp length-take (omega arith)
 
 module _ (table entries rows received : List ℕ) (set order kept : Used) (output : List ℕ) where
-  untried : passable table rows received set order kept ≡ false → WroteShort table entries rows received set order kept output Passed.Not output
+  untried : passable table rows received set order kept ≡ false → WroteShort table entries rows received set order kept output None output
   unfolding shortly
   untried e =
       record {
@@ -48,31 +50,31 @@ module _ (table entries rows received : List ℕ) (set order kept : Used) (outpu
         not_done = λ q. refl;
       }
 
-  pub long-received : most_passed < length received → WroteShort table entries rows received set order kept output Passed.Not output
+  pub long-received : most_passed < length received → WroteShort table entries rows received set order kept output None output
   unfolding passable
   long-received h = untried (rw (lt-leb (length received) most_passed h) refl)
 
   module _ (a : length received ≤ most_passed) where
-    pub long_kept : too_long most_passed kept ≡ true → WroteShort table entries rows received set order kept output Passed.Not output
+    pub long_kept : too_long most_passed kept ≡ true → WroteShort table entries rows received set order kept output None output
     unfolding passable
     long_kept e = untried (rw (le-leb (length received) most_passed a, e) refl)
 
     module _ (b : too_long most_passed kept ≡ false) where
-      pub long-set : too_long most_octets set ≡ true → WroteShort table entries rows received set order kept output Passed.Not output
+      pub long-set : too_long most_octets set ≡ true → WroteShort table entries rows received set order kept output None output
       unfolding passable
       long-set e = untried (rw (le-leb (length received) most_passed a, b, e) refl)
 
       module _ (c : too_long most_octets set ≡ false) where
-        pub long_order : too_long most_log order ≡ true → WroteShort table entries rows received set order kept output Passed.Not output
+        pub long_order : too_long most_log order ≡ true → WroteShort table entries rows received set order kept output None output
         unfolding passable
         long_order e = untried (rw (le-leb (length received) most_passed a, b, c, e) refl)
 
         module _ (d : too_long most_log order ≡ false) where
-          pub no_rows : length rows < 4 * length (rows_of table) → WroteShort table entries rows received set order kept output Passed.Not output
+          pub no_rows : length rows < 4 * length (rows_of table) → WroteShort table entries rows received set order kept output None output
           unfolding passable
           no_rows h = untried (rw (le-leb (length received) most_passed a, b, c, d, lt-leb (4 * length (rows_of table)) (length rows) h) refl)
 
-          pub tried : 4 * length (rows_of table) ≤ length rows → {r : Passed} {after : List ℕ}
+          pub tried : 4 * length (rows_of table) ≤ length rows → {r : Answered ℕ} {after : List ℕ}
               → WroteBy (capacity (length (rows_of table)) (length (content kept))) (short_by (lent_of table rows received (content set)) entries (content order) (content kept)) output r after
               → WroteShort table entries rows received set order kept output r after
           unfolding passable shortly
@@ -83,7 +85,7 @@ module _ (table entries rows received : List ℕ) (set order kept : Used) (outpu
 -- ---- by a table that passes and its index
 
 -- a pass that was not tried, or gave up
-pub nothing : {w : Wrote} {output : List ℕ} → Plainly w Passed.Not output output
+pub nothing : {w : Wrote} {output : List ℕ} → Plainly w None output output
 nothing = record { done = λ n e. let y : ◌≡◌ {A = ℕ} 0 1 = cc in absurd (omega arith); not_done = λ e. refl }
 
 -- what the tests found
@@ -115,14 +117,14 @@ within s n e = let h = not-long most_passed s n e in rw (le-ltb (length s) n h.0
 
 module _ (table entries rows received set : List ℕ) (set-used : ℕ) (kept : List ℕ) (kept-used : ℕ) (order : List ℕ) (order-used : ℕ) (output : List ℕ)
     (passes : first_bad (rows_of table) ≡ none) (i : entries ≡ index (rows_of table)) where
-  pub short-done : {r : Passed} {after : List ℕ} → WroteShort table entries rows received (used_of set set-used) (used_of order order-used) (used_of kept kept-used) output r after
+  pub short-done : {r : Answered ℕ} {after : List ℕ} → WroteShort table entries rows received (used_of set set-used) (used_of order order-used) (used_of kept kept-used) output r after
       → Plainly (writing table rows received (used_of set set-used) (used_of order order-used) (used_of kept kept-used) output) r output after
   unfolding shortly content
   short-done {r = r} {after = after} w = record { done = λ n e. by (passable table rows received (used_of set set-used) (used_of order order-used) (used_of kept kept-used)) refl n (rw e at w); not_done = w.not_done }
     where
       by : (b : Bool) → passable table rows received (used_of set set-used) (used_of order order-used) (used_of kept kept-used) ≡ b → (n : ℕ)
-          → WroteBy (capacity (length (rows_of table)) (length (take kept-used kept))) (pick b (passed_by (lent_of table rows received (take set-used set)) entries (take order-used order) (take kept-used kept)) none) output (Passed.To n) after
-          → Encodes (writing table rows received (used_of set set-used) (used_of order order-used) (used_of kept kept-used) output) (Encoded.Done n) after
+          → WroteBy (capacity (length (rows_of table)) (length (take kept-used kept))) (pick b (passed_by (lent_of table rows received (take set-used set)) entries (take order-used order) (take kept-used kept)) none) output (Some n) after
+          → Encodes (writing table rows received (used_of set set-used) (used_of order order-used) (used_of kept kept-used) output) (Ok n) after
       by false z n v =
           let q = v.answers ∙ none-not (min (capacity (length (rows_of table)) (length (take kept-used kept))) (length output)) 0 refl in
           let y : ◌≡◌ {A = ℕ} 0 1 = cc in
@@ -137,3 +139,8 @@ module _ (table entries rows received set : List ℕ) (set-used : ℕ) (kept : L
           (rw (short-enough m entries (take order-used order) (take kept-used kept) (few-kept kept kept-used t.kept-short)) at v) in
           moved (by-content table entries rows received set set-used kept kept-used order order-used output passes g t.set-short t.order-short k t.rows-there i)
           (passed-done table entries rows received (take set-used set) (take kept-used kept) (take order-used order) output l all)
+
+-- a check that was passed
+pub check-passed : {x : Unit} (r : Result Unit BadRow) → Some x ≡ result_ok r → checked_as r ≡ none
+check-passed (Ok x) e = refl
+check-passed (Err bad) e = absurd cc

@@ -1,14 +1,12 @@
 -- Which messages are written in one pass, and what such a pass is by the definition of writing.
-use Rattle.std.specs.Prelude.{ℕ, ◌*◌, ◌≡◌, List, Bool, ◌&&◌, not, length, leb}
+use Rattle.std.specs.Prelude.{ℕ, ◌*◌, ◌≡◌, List, Bool, ◌&&◌, not, length, leb, Option as Answered, Some, None, Ok}
 use Rattle.std.proofs.Math.Option.{Option, none}
 use Rattle.definitions.specs.Basic.{pick, Used, content, too_long, most_octets, most_log}
 use Rattle.definitions.specs.Rows.{rows_of}
 use Rattle.definitions.specs.Writing.{Wrote}
 use Rattle.placing.specs.Pieces.{lent_of, WroteBy, capacity}
-use Rattle.placing.specs.declared.Passed.{Passed}
 use Rattle.one_pass.specs.Passes.{passed_by}
 use Rattle.measured_writing.specs.Encodes.{Encodes}
-use Rattle.measured_writing.specs.declared.encode.Encoded.{Encoded}
 
 -- the most received octets, and octets of the kept log, of a message that a pass is tried with
 abbrev pub most_passed : ℕ
@@ -27,11 +25,11 @@ shortly table entries rows received set order kept =
     pick (passable table rows received set order kept) (passed_by (lent_of table rows received (content set)) entries (content order) (content kept)) none
 
 -- written so, or not at all
-abbrev pub WroteShort : List ℕ → List ℕ → List ℕ → List ℕ → Used → Used → Used → List ℕ → Passed → List ℕ → Type 0
+abbrev pub WroteShort : List ℕ → List ℕ → List ℕ → List ℕ → Used → Used → Used → List ℕ → Answered ℕ → List ℕ → Type 0
 WroteShort table entries rows received set order kept before r after =
     WroteBy (capacity (length (rows_of table)) (length (content kept))) (shortly table entries rows received set order kept) before r after
 
 -- a pass that is a writing where it reaches the end, and else writes nothing
-pub record Plainly (w : Wrote) (r : Passed) (before after : List ℕ) : Type 0 where
-  pub done : (n : ℕ) → r ≡ Passed.To n → Encodes w (Encoded.Done n) after
-  pub not_done : r ≡ Passed.Not → after ≡ before
+pub record Plainly (w : Wrote) (r : Answered ℕ) (before after : List ℕ) : Type 0 where
+  pub done : (n : ℕ) → r ≡ Some n → Encodes w (Ok n) after
+  pub not_done : r ≡ None → after ≡ before

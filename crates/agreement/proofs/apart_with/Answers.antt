@@ -8,10 +8,10 @@ use Rattle.agreement.proofs.apart_with.Goals as goal
 pub returns-then-apart : goal.returns-then-apart
 returns-then-apart c = rw c.if-apart.true
 
-pub returns-then-seen_has : goal.returns-then-seen_has
+pub returns-then-has : goal.returns-then-has
 unfolding apart_by
-returns-then-seen_has c = rw (c.if-apart.false, ← c.seen_has.ensures, c.if-seen_has.true)
+returns-then-has c = rw (c.if-apart.false, ← c.has.ensures, c.if-has.true)
 
 pub returns : goal.returns
 unfolding apart_by
-returns c = let a = c.args in rw (c.if-apart.false, ← c.seen_has.ensures, c.if-seen_has.false) (c.is_unlike.ensures ∙ ap (λ v. unlike v a.iei) c.row_at.ensures)
+returns c = let a = c.args in rw (c.if-apart.false, ← c.has.ensures, c.if-has.false) (c.is_unlike.ensures ∙ ap (λ v. unlike v a.iei) c.row_at.ensures)

@@ -1,9 +1,10 @@
-use Rattle.std.proofs.Common.{◌∙◌}
-use Rattle.arguments.proofs.Numbers.{no_digit, some-digit}
+-- By whether the word has an octet.
+use Rattle.std.proofs.Common.{arith, ◌∙◌}
+use Rattle.arguments.proofs.Numbers.{of_empty, of_more}
 use Rattle.arguments.proofs.number_of.Goals as goal
 
-pub returns-then-word-eq0 : goal.returns-then-word-eq0
-returns-then-word-eq0 c = no_digit _ c.if-word-eq0.true
+pub returns-in-empty : goal.returns-in-empty
+returns-in-empty c = of_empty c.args.word.now (omega arith)
 
-pub returns : goal.returns
-returns c = c.digits.ensures ∙ some-digit _ c.if-word-eq0.false
+pub returns-in_default : goal.returns-in_default
+returns-in_default c = c.digits.ensures ∙ of_more c.args.word.now (omega arith)

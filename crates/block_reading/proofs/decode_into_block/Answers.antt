@@ -3,6 +3,7 @@
 use mathlib.Core.Path.{◌≡◌, refl, ap, sym, ◌∙◌}
 use mathlib.Core.Option.{none}
 use Prim.Native.Nat.{ℕ}
+use Rattle.std.proofs.lemmas.Result.{err_from_is_err_and}
 use Rattle.definitions.specs.Rows.{rows_of, first_bad}
 use Rattle.definitions.proofs.Readings.{read-bad}
 use Rattle.definitions.proofs.Blocks.{kept_use}
@@ -16,13 +17,14 @@ use Rattle.block_reading.proofs.decode_into_block.Goals as goal
 pub block_by_index-requires : goal.block_by_index-requires
 block_by_index-requires c =
     let t = c.args.table.now in
-    let p : first_bad (rows_of t) ≡ none = sym c.check_and_index.ensures.0 ∙ ap checked_as c.in-Passes.is in
+    let p : first_bad (rows_of t) ≡ none = sym c.check_and_index.ensures.0 ∙ ap checked_as c.in_ok-check_and_index.was in
     (indexed t _ p (passed-index (rows_of t) _ p c.check_and_index.ensures.1), p)
 
-pub returns-in-BadRow : goal.returns-in-BadRow
-returns-in-BadRow c =
+pub returns-in_err-check_and_index : goal.returns-in_err-check_and_index
+returns-in_err-check_and_index c =
     let a = c.args in
     let b = a.block.now in
     let k : ℕ = kept_use a.table.now a.tlve_start a.out_of_sequence a.octets.now a.rows.now b in
-    block_refused a.table.now a.tlve_start a.out_of_sequence a.octets.now a.rows.now b
-    (read-bad a.table.now a.tlve_start a.out_of_sequence a.octets.now (two_parts a.rows.now b k) (sym c.check_and_index.ensures.0 ∙ ap checked_as c.in-BadRow.is)) refl refl
+    let p = err_from_is_err_and c.from_residual.result c.from_residual.ensures.1 in
+    rw (p.1, p.2) (block_refused a.table.now a.tlve_start a.out_of_sequence a.octets.now a.rows.now b
+    (read-bad a.table.now a.tlve_start a.out_of_sequence a.octets.now (two_parts a.rows.now b k) (sym c.check_and_index.ensures.0 ∙ ap checked_as c.in_err-check_and_index.was)) refl refl)

@@ -1,5 +1,5 @@
 -- `is_paired` is the rule of halves.
--- Each way out settles the code.
+-- Each arm settles the code.
 use native.Mathlib.Omega.{arith}
 use mathlib.Core.Path.{◌≡◌, sym}
 use mathlib.Core.Bool.{and-true}
@@ -8,14 +8,14 @@ use borrow.Author.Tests.{ne_eqb}
 use Rattle.checks.specs.Passes.{paired}
 use Rattle.checks.proofs.is_paired.Goals as goal
 
-pub returns-then-code-eq0 : goal.returns-then-code-eq0
+pub returns-in-0 : goal.returns-in-0
 unfolding paired
-returns-then-code-eq0 c = let e : c.args.code ≡ 0 = omega arith in rw e (sym (and-true (eqb c.args.next 1)))
+returns-in-0 c = let e : c.args.code ≡ 0 = omega arith in rw e (sym (and-true (eqb c.args.next 1)))
 
-pub returns-then-code-eq1 : goal.returns-then-code-eq1
+pub returns-in-1 : goal.returns-in-1
 unfolding paired
-returns-then-code-eq1 c = let e : c.args.code ≡ 1 = omega arith in rw e
+returns-in-1 c = let e : c.args.code ≡ 1 = omega arith in rw e
 
-pub returns : goal.returns
+pub returns-in_default : goal.returns-in_default
 unfolding paired
-returns c = let a = c.args in rw (ne_eqb a.code 0 c.if-code-eq0.false, ne_eqb a.code 1 c.if-code-eq1.false)
+returns-in_default c = let a = c.args in rw (ne_eqb a.code 0 (omega arith), ne_eqb a.code 1 (omega arith))

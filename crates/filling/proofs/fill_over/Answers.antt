@@ -32,19 +32,19 @@ pub fill_elements-requires : goal.fill_elements-requires
 fill_elements-requires c =
     let h = fit (goal.at.fill_elements-requires c).Else-not-may_hold in record { short = h.short; rows-room = h.rows-room; room = twice (omega (arith, h.kept-room)) (omega (arith, h.order-room)) }
 
-pub returns-in-Needs : goal.returns-in-Needs
-returns-in-Needs c =
+pub returns-in-Ok : goal.returns-in-Ok
+returns-in-Ok c =
     let a = c.args in
-    let h = fit (goal.at.returns-in-Needs c).Else-not-may_hold in
-    all-entered a.table.now a.index.now a.tlve_start a.option a.octets.now a.rows.now a.kept.now a.order.now h.short h.rows-room h.kept-room h.order-room (rw c.in-Needs.is at c.fill_elements.ensures)
+    let h = fit (goal.at.returns-in-Ok c).Else-not-may_hold in
+    all-entered a.table.now a.index.now a.tlve_start a.option a.octets.now a.rows.now a.kept.now a.order.now h.short h.rows-room h.kept-room h.order-room (rw c.in-Ok.is at c.fill_elements.ensures)
 
 zeros : {m n : ℕ} → m ≡ n → replicate {A = ℕ} m 0 ≡ replicate n 0
 zeros e = ap (λ (x : ℕ). replicate {A = ℕ} x 0) e
 
-pub returns-in-Cut : goal.returns-in-Cut
-returns-in-Cut c =
+pub returns-in-Err : goal.returns-in-Err
+returns-in-Err c =
     let a = c.args in
-    let h = fit (goal.at.returns-in-Cut c).Else-not-may_hold in
+    let h = fit (goal.at.returns-in-Err c).Else-not-may_hold in
     let l = c.fill_elements.new in
     let e = c.clear_all.ensures in
-    all-cut a.table.now a.index.now a.tlve_start a.option a.octets.now a.rows.now a.kept.now a.order.now h.short h.rows-room h.kept-room h.order-room (rw c.in-Cut.is at c.fill_elements.ensures) (e.0 ∙ zeros {m = length l.rows} {n = length a.rows.now} (omega arith)) (e.1 ∙ zeros {m = length l.kept} {n = length a.kept.now} (omega arith)) (e.2 ∙ zeros {m = length l.order} {n = length a.order.now} (omega arith))
+    all-cut a.table.now a.index.now a.tlve_start a.option a.octets.now a.rows.now a.kept.now a.order.now h.short h.rows-room h.kept-room h.order-room (rw c.in-Err.is at c.fill_elements.ensures) (e.rows_after ∙ zeros {m = length l.rows} {n = length a.rows.now} (omega arith)) (e.kept_after ∙ zeros {m = length l.kept} {n = length a.kept.now} (omega arith)) (e.order_after ∙ zeros {m = length l.order} {n = length a.order.now} (omega arith))

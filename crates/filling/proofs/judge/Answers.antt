@@ -2,6 +2,7 @@
 -- Where none does, the part can be entered.
 use native.Mathlib.Omega.{arith}
 use mathlib.Core.Path.{sym, ◌∙◌}
+use Rattle.std.proofs.lemmas.Result.{err_from_is_err_and}
 use Rattle.filling.specs.Noted.{Judged}
 use Rattle.filling.proofs.Noting.{needed, cut-is, long, no_rows, cut_short_lem, no-kept, no-order, allowed}
 use Rattle.filling.proofs.judge.Goals as goal
@@ -14,18 +15,21 @@ pub returns-then-rows-places : goal.returns-then-rows-places
 unfolding Judged
 returns-then-rows-places c = λ l e f g. let a = c.args in no_rows a.table.now a.index.now a.tlve_start a.option a.octets.now l.rows l.kept l.order (omega arith) (omega (arith, e, c.places.ensures))
 
-pub returns-then-kept-k : goal.returns-then-kept-k
+pub returns-in_err-needs : goal.returns-in_err-needs
 unfolding Judged
-returns-then-kept-k c = λ l e f g. let a = c.args in no-kept a.table.now a.index.now a.tlve_start a.option a.octets.now l.rows l.kept l.order (omega arith) (omega (arith, e, c.places.ensures)) c.in-Needs.k c.in-Needs.o (needed _ (sym c.in-Needs.is ∙ c.measure.ensures.by_index)) (omega (arith, f))
+returns-in_err-needs c = λ l e f g.
+    let a = c.args in
+    let p = err_from_is_err_and c.from_residual.result c.from_residual.ensures.1 in
+    rw (p.1, p.2) (cut_short_lem a.table.now a.index.now a.tlve_start a.option a.octets.now l.rows l.kept l.order (omega arith) (omega (arith, e, c.places.ensures)) (cut-is _ (sym c.in_err-needs.was ∙ c.measure.ensures.by_index)))
 
-pub returns-then-order-o : goal.returns-then-order-o
+pub returns-then-kept-needs : goal.returns-then-kept-needs
 unfolding Judged
-returns-then-order-o c = λ l e f g. let a = c.args in no-order a.table.now a.index.now a.tlve_start a.option a.octets.now l.rows l.kept l.order (omega arith) (omega (arith, e, c.places.ensures)) c.in-Needs.k c.in-Needs.o (needed _ (sym c.in-Needs.is ∙ c.measure.ensures.by_index)) (omega (arith, f)) (omega (arith, g))
+returns-then-kept-needs c = λ l e f g. let a = c.args in no-kept a.table.now a.index.now a.tlve_start a.option a.octets.now l.rows l.kept l.order (omega arith) (omega (arith, e, c.places.ensures)) c.in_ok-needs.needs (needed _ (sym c.in_ok-needs.was ∙ c.measure.ensures.by_index)) (omega (arith, f))
 
-pub returns-in-Cut : goal.returns-in-Cut
+pub returns-then-order-needs : goal.returns-then-order-needs
 unfolding Judged
-returns-in-Cut c = λ l e f g. let a = c.args in cut_short_lem a.table.now a.index.now a.tlve_start a.option a.octets.now l.rows l.kept l.order (omega arith) (omega (arith, e, c.places.ensures)) (cut-is _ (sym c.in-Cut.is ∙ c.measure.ensures.by_index))
+returns-then-order-needs c = λ l e f g. let a = c.args in no-order a.table.now a.index.now a.tlve_start a.option a.octets.now l.rows l.kept l.order (omega arith) (omega (arith, e, c.places.ensures)) c.in_ok-needs.needs (needed _ (sym c.in_ok-needs.was ∙ c.measure.ensures.by_index)) (omega (arith, f)) (omega (arith, g))
 
-pub returns-else-order-o : goal.returns-else-order-o
+pub returns : goal.returns
 unfolding Judged
-returns-else-order-o c = λ l e f g. let a = c.args in allowed a.table.now a.index.now a.tlve_start a.option a.octets.now l.rows l.kept l.order (omega arith) (omega (arith, e, c.places.ensures)) c.in-Needs.k c.in-Needs.o (needed _ (sym c.in-Needs.is ∙ c.measure.ensures.by_index)) (omega (arith, f)) (omega (arith, g))
+returns c = λ l e f g. let a = c.args in allowed a.table.now a.index.now a.tlve_start a.option a.octets.now l.rows l.kept l.order (omega arith) (omega (arith, e, c.places.ensures)) c.in_ok-needs.needs (needed _ (sym c.in_ok-needs.was ∙ c.measure.ensures.by_index)) (omega (arith, f)) (omega (arith, g))

@@ -1,18 +1,17 @@
 -- `allowed_count` is the range of a count.
--- Each branch settles one end of it.
+-- Each arm settles the definition's tests.
 use native.Mathlib.Omega.{arith}
-use borrow.Author.Tests.{le-leb, lt-leb}
+use borrow.Author.Tests.{le-leb}
 use Rattle.definitions.specs.Logs.{allowed}
+use Rattle.kept.proofs.Counts.{allowed-not}
 use Rattle.kept.proofs.allowed_count.Goals as goal
 
-pub returns-then-value-eq0 : goal.returns-then-value-eq0
+pub returns-in-1-to-65535 : goal.returns-in-1-to-65535
 unfolding allowed
-returns-then-value-eq0 c = rw (lt-leb 1 c.args.value (omega arith))
+returns-in-1-to-65535 c = rw (le-leb 1 c.args.value (omega arith), le-leb c.args.value 65535 (omega arith))
 
-pub returns-then-value-gt-MOST_OCTETS : goal.returns-then-value-gt-MOST_OCTETS
-unfolding allowed
-returns-then-value-gt-MOST_OCTETS c = let v = c.args.value in rw (le-leb 1 v (omega arith), lt-leb v 65535 (omega arith))
+pub returns-in_default : goal.returns-in_default
+returns-in_default c = allowed-not c.args.value c.args.took (λ p q. omega arith)
 
-pub returns : goal.returns
-unfolding allowed
-returns c = let v = c.args.value in rw (le-leb 1 v (omega arith), le-leb v 65535 (omega arith))
+pub returns-in_default-2 : goal.returns-in_default-2
+returns-in_default-2 c = allowed-not c.args.value c.args.took (λ p q. omega arith)

@@ -1,32 +1,42 @@
--- `kept_count` is a whole walk's count, after the checks of the used count.
--- Each arm names what the walk told.
-use native.Mathlib.Omega.{arith}
-use mathlib.Core.Path.{ap, sym, ◌∙◌}
-use lib.ListN.{length-take}
-use Rattle.definitions.specs.Basic.{content}
+-- `kept_count` is what a whole walk told, after the check of the used count.
+-- Each way out names what the walk told.
+use mathlib.Core.Path.{◌≡◌, refl, sym, ◌∙◌}
+use Rattle.std.specs.Prelude.{Err}
+use Rattle.std.proofs.lemmas.Result.{err_from_is_err_and}
+use mathlib.Core.Bool.{false≢true}
 use Rattle.definitions.specs.Logs.{kept_count}
-use Rattle.definitions.proofs.Logs.{past-buffer, past-limit, not-long, asking-long, asking-bad}
-use Rattle.definitions.proofs.LogWalks.{kept_log, told-bad}
-use Rattle.kept.specs.Kept.{used_of, found_by, told_by}
-use Rattle.kept.proofs.Asked.{count-log}
+use Rattle.definitions.proofs.Logs.{asking-long}
+use Rattle.kept.specs.Kept.{used_of}
+use Rattle.kept.specs.declared.LogError.{LogError}
+use Rattle.kept.proofs.Asked.{long-log, walked, not-walked, count-log, count-bad}
 use Rattle.kept.proofs.kept_count.Goals as goal
 
-pub returns-then-used-log : goal.returns-then-used-log
+pub returns-in_err-content_of : goal.returns-in_err-content_of
 unfolding kept_count
-returns-then-used-log c = sym (asking-long _ _ 2 _ (past-buffer 131070 (used_of c.args.log.now c.args.used) (omega arith)))
+returns-in_err-content_of c =
+    let e = c.in_err-content_of.ensures in
+    let l = e.long in
+    let p = err_from_is_err_and c.from_residual.result c.from_residual.ensures.1 in
+    let p1 = p.1 in
+    let p2 = p.2 in
+    let q : c.from_residual.result ≡ Err LogError.TooLong = cc in
+    rw q (sym (asking-long _ _ 2 _ (long-log 131070 (used_of c.args.log.now c.args.used) (λ h. false≢true (e.short.1 h)))))
 
-pub returns-then-used-gt-MOST_LOG : goal.returns-then-used-gt-MOST_LOG
-unfolding kept_count
-returns-then-used-gt-MOST_LOG c = sym (asking-long _ _ 2 _ (past-limit 131070 (used_of c.args.log.now c.args.used) (omega arith)))
+pub returns-in_err-walk : goal.returns-in_err-walk
+returns-in_err-walk c =
+    let o = c.in_ok-content_of.ensures in
+    let s = o.short.0 refl in
+    let n = not-walked LogError.Malformed c.walk_kept.result (sym c.in_err-walk.was ∙ c.ok_or.ensures.value) in
+    let n1 = n.1 in
+    let p = err_from_is_err_and c.from_residual-in_err-walk.result c.from_residual-in_err-walk.ensures.1 in
+    let p1 = p.1 in
+    let p2 = p.2 in
+    let q : c.from_residual-in_err-walk.result ≡ Err LogError.Malformed = cc in
+    rw q (count-bad _ _ 0 s.0 s.1 (rw (n.0, o.content) at c.walk_kept.ensures))
 
-pub slice_bounds-walk_kept-end : goal.slice_bounds-walk_kept-end
-slice_bounds-walk_kept-end c = simp length-take (omega arith)
-
-pub returns-in-Log : goal.returns-in-Log
-unfolding told_by
-returns-in-Log c = count-log _ _ 0 (omega arith) (omega arith) (ap told_by (sym c.in-Log.is) ∙ c.walk_kept.ensures)
-
-pub returns-in-Malformed : goal.returns-in-Malformed
-unfolding kept_count content told_by found_by
-returns-in-Malformed c =
-    sym (asking-bad _ _ 2 _ (not-long 131070 (used_of c.args.log.now c.args.used) (omega arith) (omega arith)) (told-bad kept_log _ _ (ap told_by (sym c.in-Malformed.is) ∙ c.walk_kept.ensures)))
+pub returns : goal.returns
+returns c =
+    let o = c.in_ok-content_of.ensures in
+    let s = o.short.0 refl in
+    let w = walked LogError.Malformed c.walk_kept.result (sym c.in_ok-walk.was ∙ c.ok_or.ensures.value) in
+    count-log _ _ 0 s.0 s.1 (rw (w, o.content) at c.walk_kept.ensures)

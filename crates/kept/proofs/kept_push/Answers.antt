@@ -2,66 +2,87 @@
 -- What the walk over the used octets told decides 11; the numbers compared are the definition's.
 use Prim.Native.Nat.{◌≤◌}
 use native.Mathlib.Omega.{arith}
-use mathlib.Core.Path.{ap, sym, ◌∙◌}
+use mathlib.Core.Bool.{false≢true}
+use mathlib.Core.Path.{◌≡◌, refl, ap, sym, ◌∙◌}
 use mathlib.Core.List.{◌∷◌}
 use lib.ListN.{length-take, length-drop}
-use Rattle.definitions.specs.Basic.{content}
-use Rattle.definitions.specs.Logs.{kept_entry, kept_push}
-use Rattle.definitions.proofs.Logs.{past-buffer, past-limit, count-short}
+use Rattle.std.specs.Prelude.{Err}
+use Rattle.std.proofs.lemmas.Result.{err_from_is_err_and}
+use Rattle.definitions.specs.Logs.{kept_entry}
+use Rattle.definitions.proofs.Logs.{count-short}
 use Rattle.definitions.proofs.Lists.{lent-over}
-use Rattle.definitions.proofs.LogWalks.{kept_log, told-bad, told-log, push-used, push-large, push-over, push-bad, push-full, push-done}
-use Rattle.kept.specs.Kept.{used_of, found_by, told_by}
-use Rattle.kept.proofs.Entries.{needed, large, not-large}
+use Rattle.kept.specs.Kept.{used_of, push_error}
+use Rattle.kept.specs.declared.PushError.{PushError}
+use Rattle.kept.proofs.Asked.{long-log, walked, not-walked}
+use Rattle.kept.proofs.Entries.{needed}
+use Rattle.kept.proofs.Pushes.{leaves-used, leaves-large, leaves-over, leaves-bad, leaves-full, leaves-done}
 use Rattle.kept.proofs.kept_push.Goals as goal
 
-pub returns-then-used-log : goal.returns-then-used-log
-unfolding kept_push
-returns-then-used-log c = push-used _ _ _ _ 2 2 (past-buffer 131070 (used_of c.args.log.now c.args.used) c.if-used-log.true)
-
-pub returns-then-used-gt-MOST_LOG : goal.returns-then-used-gt-MOST_LOG
-unfolding kept_push
-returns-then-used-gt-MOST_LOG c = push-used _ _ _ _ 2 2 (past-limit 131070 (used_of c.args.log.now c.args.used) c.if-used-gt-MOST_LOG.true)
+pub returns-in_err-content : goal.returns-in_err-content
+returns-in_err-content c =
+    let a = c.args in
+    let e = c.in_err-content.ensures in
+    let p = err_from_is_err_and c.from_residual.result c.from_residual.ensures.1 in
+    let p1 = p.1 in
+    let m : p.0 ≡ PushError.TooLong = p.2 ∙ ap push_error e.long in
+    let q : c.from_residual.result ≡ Err PushError.TooLong = cc in
+    let l = leaves-used a.log.now a.used a.iei a.octets.now (long-log 131070 (used_of a.log.now a.used) (λ h. false≢true (e.short.1 h))) in
+    record { said = rw q l.0; log_after = l.1 }
 
 pub returns-then-octets-ge-MOST_OCTETS : goal.returns-then-octets-ge-MOST_OCTETS
-unfolding kept_push
-returns-then-octets-ge-MOST_OCTETS c = push-large _ _ _ _ 2 2 (large c.args.iei c.args.octets.now c.if-octets-ge-MOST_OCTETS.true)
-
-pub overflow_add-need : goal.overflow_add-need
-overflow_add-need c =
-    let r : c.count_len.result ≤ 3 = rw c.count_len.ensures (count-short _) in omega arith
-
-pub overflow_add-used : goal.overflow_add-used
-overflow_add-used c =
-    let r : c.count_len.result ≤ 3 = rw c.count_len.ensures (count-short _) in omega arith
-
-pub returns-then-used-need-gt-MOST_LOG : goal.returns-then-used-need-gt-MOST_LOG
-unfolding kept_push
-returns-then-used-need-gt-MOST_LOG c = let a = c.args in push-over _ _ _ _ 2 2 _ (needed a.iei a.octets.now c.count_len.ensures) c.if-used-need-gt-MOST_LOG.true
-
-pub slice_bounds-walk_kept-end-2 : goal.slice_bounds-walk_kept-end-2
-slice_bounds-walk_kept-end-2 c = simp length-take (omega arith)
-
-pub returns-then-used-need : goal.returns-then-used-need
-unfolding kept_push content told_by found_by
-returns-then-used-need c =
+returns-then-octets-ge-MOST_OCTETS c =
     let a = c.args in
-    push-full _ _ _ _ 2 2 _ (needed a.iei a.octets.now c.count_len.ensures) c.if-used-log.false (not-large a.iei a.octets.now c.if-octets-ge-MOST_OCTETS.false) c.if-used-need-gt-MOST_LOG.false
-    (told-log kept_log 0 _ (ap told_by (sym c.in-Log.is) ∙ c.walk_kept.ensures)).good c.if-used-need.true
+    let l = leaves-large a.log.now a.used a.iei a.octets.now c.if-octets-ge-MOST_OCTETS.true in
+    record { said = l.0; log_after = l.1 }
+
+pub overflow_add-after : goal.overflow_add-after
+overflow_add-after c = let r : c.count_len.result ≤ 3 = rw c.count_len.ensures (count-short _) in omega arith
+
+pub overflow_add-after-2 : goal.overflow_add-after-2
+overflow_add-after-2 c =
+    let r : c.count_len.result ≤ 3 = rw c.count_len.ensures (count-short _) in
+    let s = c.in_ok-content.ensures.short.0 refl in omega arith
+
+pub returns-then-after-gt-MOST_LOG : goal.returns-then-after-gt-MOST_LOG
+returns-then-after-gt-MOST_LOG c =
+    let a = c.args in
+    let l = leaves-over a.log.now a.used a.iei a.octets.now c.count_len.ensures c.if-after-gt-MOST_LOG.true in
+    record { said = l.0; log_after = l.1 }
+
+pub returns-in_err-ok_or : goal.returns-in_err-ok_or
+returns-in_err-ok_or c =
+    let a = c.args in
+    let o = c.in_ok-content.ensures in
+    let n = not-walked PushError.Malformed c.walk_kept.result (sym c.in_err-ok_or.was ∙ c.ok_or.ensures.value) in
+    let n1 = n.1 in
+    let p = err_from_is_err_and c.from_residual-in_err-ok_or.result c.from_residual-in_err-ok_or.ensures.1 in
+    let p1 = p.1 in
+    let p2 = p.2 in
+    let q : c.from_residual-in_err-ok_or.result ≡ Err PushError.Malformed = cc in
+    let l = leaves-bad a.log.now a.used a.iei a.octets.now c.count_len.ensures (o.short.0 refl).0 c.if-octets-ge-MOST_OCTETS.false c.if-after-gt-MOST_LOG.false
+    (rw (n.0, o.content) at c.walk_kept.ensures) in
+    record { said = rw q l.0; log_after = l.1 }
+
+pub returns-then-after-log : goal.returns-then-after-log
+returns-then-after-log c =
+    let a = c.args in
+    let o = c.in_ok-content.ensures in
+    let w = walked PushError.Malformed c.walk_kept.result (sym c.in_ok-ok_or.was ∙ c.ok_or.ensures.value) in
+    let l = leaves-full a.log.now a.used a.iei a.octets.now c.count_len.ensures (o.short.0 refl).0 c.if-octets-ge-MOST_OCTETS.false c.if-after-gt-MOST_LOG.false
+    (rw (w, o.content) at c.walk_kept.ensures) c.if-after-log.true in
+    record { said = l.0; log_after = l.1 }
 
 pub put_entry-requires : goal.put_entry-requires
-put_entry-requires c = let a = c.args in (c.if-octets-ge-MOST_OCTETS.false, simp (length-take, length-drop) (omega (arith, needed a.iei a.octets.now c.count_len.ensures)))
-
-pub returns-else-used-need : goal.returns-else-used-need
-unfolding kept_push content told_by found_by
-returns-else-used-need c =
+put_entry-requires c =
     let a = c.args in
-    let p = push-done (used_of a.log.now a.used) (kept_entry (a.iei ∷ a.octets.now)) _ _ 2 2 _ (needed a.iei a.octets.now c.count_len.ensures) c.if-used-log.false (not-large a.iei a.octets.now c.if-octets-ge-MOST_OCTETS.false) c.if-used-need-gt-MOST_LOG.false
-    (told-log kept_log 0 _ (ap told_by (sym c.in-Log.is) ∙ c.walk_kept.ensures)).good c.if-used-need.false in
-    (p.0, rw c.put_entry.ensures (lent-over a.used (kept_entry (a.iei ∷ a.octets.now)) a.log.now c.if-used-log.false) ∙ p.1)
+    (c.if-octets-ge-MOST_OCTETS.false, simp (length-take, length-drop) (omega (arith, needed a.iei a.octets.now c.count_len.ensures)))
 
-pub returns-in-Malformed : goal.returns-in-Malformed
-unfolding kept_push content told_by found_by
-returns-in-Malformed c =
+pub returns : goal.returns
+returns c =
     let a = c.args in
-    push-bad _ _ _ _ 2 2 _ (needed a.iei a.octets.now c.count_len.ensures) c.if-used-log.false (not-large a.iei a.octets.now c.if-octets-ge-MOST_OCTETS.false) c.if-used-need-gt-MOST_LOG.false
-    (told-bad kept_log 0 _ (ap told_by (sym c.in-Malformed.is) ∙ c.walk_kept.ensures))
+    let o = c.in_ok-content.ensures in
+    let s = o.short.0 refl in
+    let w = walked PushError.Malformed c.walk_kept.result (sym c.in_ok-ok_or.was ∙ c.ok_or.ensures.value) in
+    let l = leaves-done a.log.now a.used a.iei a.octets.now c.count_len.ensures s.0 c.if-octets-ge-MOST_OCTETS.false c.if-after-gt-MOST_LOG.false
+    (rw (w, o.content) at c.walk_kept.ensures) c.if-after-log.false in
+    record { said = l.0; log_after = rw c.put_entry.ensures (lent-over a.used (kept_entry (a.iei ∷ a.octets.now)) a.log.now s.0) ∙ l.1 }

@@ -1,33 +1,36 @@
 -- `missing_octets` is what is missing by the first octet: none at all, one octet alone, or by a length field.
--- Each branch settles a test of the form by which an unknown element is measured.
+-- Each arm settles a test of the form by which an unknown element is measured.
 use mathlib.Core.Path.{sym}
 use native.Mathlib.Omega.{arith}
 use borrow.Author.Tests.{le-leb, lt-leb}
-use lib.ListN.{get_or}
 use Rattle.definitions.specs.Length.{unknown_form}
 use Rattle.definitions.proofs.Length.{missing-none, missing-by, lacking-one}
+use Rattle.length.proofs.First.{first-is, first-none}
 use Rattle.length.proofs.missing_octets.Goals as goal
 
-pub returns-then-octets-eq0 : goal.returns-then-octets-eq0
-returns-then-octets-eq0 c = let a = c.args in sym (missing-none a.tlve_start a.octets.now (omega arith))
+pub returns-in-None : goal.returns-in-None
+returns-in-None c = let a = c.args in sym (missing-none a.tlve_start a.octets.now (first-none _ c.in-None.ensures.value))
 
-pub returns-then-x-ge128 : goal.returns-then-x-ge128
+pub returns-in-Some : goal.returns-in-Some
 unfolding unknown_form
-returns-then-x-ge128 c =
+returns-in-Some c =
     let a = c.args in
-    let s = a.octets.now in
-    rw (missing-by a.tlve_start s (omega arith), le-leb 128 (get_or s 0 0) (omega arith)) (sym (lacking-one s (omega arith)))
+    let x = c.in-Some.field-0.now in
+    let f = first-is a.octets.now x c.in-Some.ensures.value in
+    rw (missing-by a.tlve_start a.octets.now f.0, f.1, le-leb 128 x (omega arith)) (sym (lacking-one a.octets.now f.0))
 
-pub returns-then-x-tlve_start : goal.returns-then-x-tlve_start
+pub returns-in-Some-2 : goal.returns-in-Some-2
 unfolding unknown_form
-returns-then-x-tlve_start c =
+returns-in-Some-2 c =
     let a = c.args in
-    let x = get_or a.octets.now 0 0 in
-    rw (missing-by a.tlve_start a.octets.now (omega arith), lt-leb 128 x (omega arith), le-leb a.tlve_start x (omega arith)) c.tlve_missing.ensures
+    let x = c.in-Some.field-0.now in
+    let f = first-is a.octets.now x c.in-Some.ensures.value in
+    rw (missing-by a.tlve_start a.octets.now f.0, f.1, lt-leb 128 x (omega arith), le-leb a.tlve_start x (omega arith)) c.tlve_missing.ensures
 
-pub returns : goal.returns
+pub returns-in-Some-3 : goal.returns-in-Some-3
 unfolding unknown_form
-returns c =
+returns-in-Some-3 c =
     let a = c.args in
-    let x = get_or a.octets.now 0 0 in
-    rw (missing-by a.tlve_start a.octets.now (omega arith), lt-leb 128 x (omega arith), lt-leb a.tlve_start x (omega arith)) c.tlv_missing.ensures
+    let x = c.in-Some.field-0.now in
+    let f = first-is a.octets.now x c.in-Some.ensures.value in
+    rw (missing-by a.tlve_start a.octets.now f.0, f.1, lt-leb 128 x (omega arith), lt-leb a.tlve_start x (omega arith)) c.tlv_missing.ensures

@@ -1,21 +1,15 @@
 -- `tlv_length` is the length by a field of one octet: the element length fact at this width.
--- The number read is the field's; the comparison with the octets left is the definition's.
-use mathlib.Core.Path.{ap, sym, ◌∙◌}
-use native.Mathlib.Omega.{arith}
-use Rattle.definitions.specs.Length.{whole, stated}
-use Rattle.definitions.proofs.Length.{length-there, length-short, field-short}
-use Rattle.octets.proofs.Laws.{octet-is, octet-short}
-use Rattle.length.specs.Answers.{length_of}
+-- The number read is the field's; `within` compares.
+use mathlib.Core.Path.{sym, ◌∙◌}
+use Rattle.definitions.specs.Length.{whole, stated, length_by}
+use Rattle.definitions.proofs.Length.{field-short}
+use Rattle.octets.proofs.Laws.{number-is, number-none}
 use Rattle.length.proofs.tlv_length.Goals as goal
 
-pub returns-then-length-octets : goal.returns-then-length-octets
+pub returns-in_err-n : goal.returns-in_err-n
 unfolding whole stated
-returns-then-length-octets c = ap length_of (sym (length-there 1 _ c.args.octets.now (octet-is 1 _ (sym c.in-Is.is ∙ c.get_u8.ensures)) (omega arith)))
+returns-in_err-n c = rw (field-short 1 c.args.octets.now (number-none 1 1 _ (sym c.in_err-n.was ∙ c.get_u8.ensures))) c.from_residual.ensures
 
-pub returns-else-length-octets : goal.returns-else-length-octets
-unfolding whole stated
-returns-else-length-octets c = ap length_of (sym (length-short 1 _ c.args.octets.now (octet-is 1 _ (sym c.in-Is.is ∙ c.get_u8.ensures)) (omega arith)))
-
-pub returns-in-Short : goal.returns-in-Short
-unfolding whole stated
-returns-in-Short c = ap length_of (sym (field-short 1 c.args.octets.now (octet-short 1 _ (sym c.in-Short.is ∙ c.get_u8.ensures))))
+pub returns : goal.returns
+unfolding whole stated length_by
+returns c = let n = number-is 1 1 _ (sym c.in_ok-n.was ∙ c.get_u8.ensures) in let f = c.from.ensures in rw n (rw f at c.within.ensures)

@@ -1,12 +1,16 @@
 -- `tlve_missing` is what an element lacks by a field of two octets: the law over the width, at this width.
 -- The number read is the field's; a field that is not there is cut.
-use mathlib.Core.Path.{sym, ◌∙◌}
-use Rattle.definitions.proofs.Length.{lacking-widths, lacking-value, lacking-field}
-use Rattle.octets.proofs.Laws.{pair_is, pair-short}
+use mathlib.Core.Path.{◌≡◌, sym, ◌∙◌}
+use Rattle.std.proofs.Common.{rules, ℕ}
+use Rattle.std.specs.Prelude.{MatchOption}
+use Rattle.definitions.proofs.Length.{lacking-widths}
+use Rattle.octets.specs.declared.Cursor.{Cursor}
+use Rattle.length.proofs.First.{lacking_read}
 use Rattle.length.proofs.tlve_missing.Goals as goal
 
-pub returns-in-Is : goal.returns-in-Is
-returns-in-Is c = c.missing_to.ensures ∙ sym ((lacking-widths _).1 ∙ lacking-value 2 _ c.args.octets.now (pair_is 1 _ (sym c.in-Is.is ∙ c.get_u16.ensures)))
-
-pub returns-in-Short : goal.returns-in-Short
-returns-in-Short c = c.missing_to-in-Short.ensures ∙ sym ((lacking-widths _).1 ∙ lacking-field 2 c.args.octets.now (pair-short 1 _ (sym c.in-Short.is ∙ c.get_u16.ensures)))
+pub returns : goal.returns
+returns c =
+    let s = c.args.octets.now in
+    let v = c.map_or-value.result in
+    let m : MatchOption c.get_u16.result (v ≡ 0) (λ (x : ℕ × Cursor). v ≡ x.0) = search rules in
+    c.saturating_sub.ensures ∙ sym ((lacking-widths s).1 ∙ lacking_read 2 s v (rw c.get_u16.ensures at m))

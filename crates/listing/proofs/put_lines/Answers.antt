@@ -5,10 +5,9 @@ use native.Mathlib.Omega.{arith}
 use mathlib.Core.Path.{sym, ◌∙◌}
 use Rattle.definitions.specs.Rows.{rows_of}
 use Rattle.definitions.specs.Tables.{start_of}
-use Rattle.elements.proofs.Nexts.{nexts, cuts, ends}
-use Rattle.elements.proofs.Walks.{never-cut}
+use Rattle.elements.proofs.Nexts.{nexts}
 use Rattle.wording.proofs.Said.{line-said}
-use Rattle.listing.proofs.Reading.{written_start, written, written_all}
+use Rattle.listing.proofs.Reading.{some-step, none-step, written_start, written, written_all}
 use Rattle.listing.proofs.put_lines.Goals as goal
 
 pub loop-e-init : goal.loop-e-init
@@ -18,19 +17,17 @@ pub step-requires : goal.step-requires
 step-requires c = c.requires.0
 
 pub loop-e-smaller : goal.loop-e-smaller
-loop-e-smaller c = let n = nexts (rows_of c.args.table.now) start_of c.args.option c.args.octets.now c.loop-e.state c.loop-e.invariant.within _ _ (sym c.in-Next.is ∙ c.step.ensures) in omega (arith, n.further, n.within, n.some-octet)
+loop-e-smaller c =
+    let n = nexts (rows_of c.args.table.now) start_of c.args.option c.args.octets.now c.loop-e.state c.loop-e.invariant.within _ _ (some-step c.step.result (sym c.in-Some.is ∙ c.unwrap_or.ensures) ∙ c.step.ensures) in
+    omega (arith, n.further, n.within, n.some-octet)
 
 pub loop-e-preserved : goal.loop-e-preserved
-loop-e-preserved c = written c.args.table.now c.args.option c.args.octets.now c.args.out.now c.args.first _ _ _ _ _ _ _ c.loop-e.invariant (nexts (rows_of c.args.table.now) start_of c.args.option c.args.octets.now c.loop-e.state c.loop-e.invariant.within _ _ (sym c.in-Next.is ∙ c.step.ensures)) (line-said (omega (arith, c.loop-e.invariant.bound, c.loop-e.invariant.within, c.requires.0.short, c.requires.1)) _ c.say_line-used.ensures)
+loop-e-preserved c =
+    let n = nexts (rows_of c.args.table.now) start_of c.args.option c.args.octets.now c.loop-e.state c.loop-e.invariant.within _ _ (some-step c.step.result (sym c.in-Some.is ∙ c.unwrap_or.ensures) ∙ c.step.ensures) in
+    written c.args.table.now c.args.option c.args.octets.now c.args.out.now c.args.first _ _ _ _ _ _ _ c.loop-e.invariant n (line-said (omega (arith, c.loop-e.invariant.bound, c.loop-e.invariant.within, c.requires.0.short, c.requires.1)) _ c.say_line-used.ensures)
 
-pub shape_of-out-in-Cut : goal.shape_of-out-in-Cut
-shape_of-out-in-Cut c = c.loop-e.invariant.long
-
-pub returns-in-Cut : goal.returns-in-Cut
-returns-in-Cut c = absurd (never-cut c.loop-e.invariant.reads (cuts (rows_of c.args.table.now) start_of c.args.option c.args.octets.now c.loop-e.state c.loop-e.invariant.within (sym c.in-Cut.is ∙ c.step.ensures)))
-
-pub shape_of-out-in-End : goal.shape_of-out-in-End
-shape_of-out-in-End c = c.loop-e.invariant.long
-
-pub returns-in-End : goal.returns-in-End
-returns-in-End c = (written_all c.args.table.now c.args.option c.args.octets.now c.args.out.now c.args.first c.loop-e.invariant (ends (rows_of c.args.table.now) start_of c.args.option c.args.octets.now c.loop-e.state c.loop-e.invariant.within (sym c.in-End.is ∙ c.step.ensures)), omega (arith, c.loop-e.invariant.bound, c.loop-e.invariant.within, c.requires.0.short, c.requires.1))
+pub returns : goal.returns
+returns c =
+    let a = c.args in
+    let i = c.loop-e.invariant in
+    (written_all a.table.now a.option a.octets.now a.out.now a.first i (none-step a.table.now a.option a.octets.now c.loop-e.state i.reads i.within c.step.result c.step.ensures (sym c.in_default.is ∙ c.unwrap_or.ensures)), omega (arith, i.bound, i.within, c.requires.0.short, c.requires.1))

@@ -8,8 +8,5 @@ use Rattle.logs.proofs.check_logs.Goals as goal
 pub returns-then-order_malformed : goal.returns-then-order_malformed
 returns-then-order_malformed c = first-bad (order_list c.args.order.now) (kept_list c.args.kept.now) (sym c.order_malformed.ensures ∙ c.if-order_malformed.true)
 
-pub returns-in-Octets : goal.returns-in-Octets
-returns-in-Octets c = by-kept (order_list c.args.order.now) (kept_list c.args.kept.now) (sym c.order_malformed.ensures ∙ c.if-order_malformed.false) (sym c.in-Octets.is ∙ c.kept_len.ensures)
-
-pub returns-in-Malformed : goal.returns-in-Malformed
-returns-in-Malformed c = by-kept (order_list c.args.order.now) (kept_list c.args.kept.now) (sym c.order_malformed.ensures ∙ c.if-order_malformed.false) (sym c.in-Malformed.is ∙ c.kept_len.ensures)
+pub returns : goal.returns
+returns c = c.ok_or.ensures.value ∙ by-kept (order_list c.args.order.now) (kept_list c.args.kept.now) (sym c.order_malformed.ensures ∙ c.if-order_malformed.false) c.kept_len.ensures

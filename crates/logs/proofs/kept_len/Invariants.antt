@@ -5,8 +5,8 @@ use lib.ListN.{length}
 use Rattle.logs.specs.Walks.{Keeping}
 use Rattle.logs.proofs.kept_len.Given as goal
 
-abbrev pub invariant-loop-at : goal.invariant-loop-at
-invariant-loop-at l = Keeping l.kept l.at l.octets
+abbrev pub invariant-loop-along : goal.invariant-loop-along
+invariant-loop-along l = Keeping l.kept l.along.at l.along.octets
 
-abbrev pub decreases-loop-at : goal.decreases-loop-at
-decreases-loop-at l = length l.kept - l.at
+abbrev pub decreases-loop-along : goal.decreases-loop-along
+decreases-loop-along l = length l.kept - l.along.at

@@ -4,7 +4,7 @@ use mathlib.Core.Path.{sym, ◌∙◌}
 use Rattle.logs.proofs.logs_long.Goals as goal
 
 pub returns-then-too_long : goal.returns-then-too_long
-returns-then-too_long c = rw (sym c.too_long.ensures ∙ c.if-too_long.true)
+returns-then-too_long c = rw (sym c.too_long.ensures ∙ c.if-too_long.true) c.if-too_long.true
 
-pub returns : goal.returns
-returns c = rw (sym c.too_long.ensures ∙ c.if-too_long.false) c.too_long-2.ensures
+pub returns-else-too_long : goal.returns-else-too_long
+returns-else-too_long c = rw (sym c.too_long.ensures ∙ c.if-too_long.false) c.too_long-else-too_long.ensures

@@ -13,28 +13,28 @@ use Rattle.definitions.proofs.LogWalks.{left-begin, left_step, left-stop, left_e
 use Rattle.order.specs.Order.{placed_as, front_as}
 use Rattle.logs.proofs.Formed.{none-put}
 use Rattle.logs.proofs.order_malformed.Goals as goal
-use Rattle.logs.proofs.order_malformed.Goals.{In-Is}
+use Rattle.logs.proofs.order_malformed.Goals.{In-Some}
 
 pub loop-at-init : goal.loop-at-init
 loop-at-init c = left-begin order_list _ _ refl
 
 -- the entry at the position
-split : (c : In-Is) → OrderEntry c.args.order.now c.loop-at.at c.loop-at-test.true (placed_as c.in-Is.entry)
-split c = order-split _ _ c.loop-at-test.true (sym (ap front_as (sym c.in-Is.is) ∙ rw to_end at c.front_at.ensures))
+split : (c : In-Some) → OrderEntry c.args.order.now c.loop-at.at c.loop-at-test.true (placed_as c.in-Some.entry)
+split c = order-split _ _ c.loop-at-test.true (sym (ap front_as (sym c.in-Some.is) ∙ rw to_end at c.front_at.ensures))
 
 pub overflow_add-at : goal.overflow_add-at
-overflow_add-at c = omega (arith, c.entry_len-at.ensures, (split (goal.at.overflow_add-at c).In-Is).within)
+overflow_add-at c = omega (arith, c.entry_len-at.ensures, (split (goal.at.overflow_add-at c).In-Some).within)
 
 pub loop-at-smaller : goal.loop-at-smaller
-loop-at-smaller c = omega (arith, c.entry_len-at.ensures, (split (goal.at.loop-at-smaller c).In-Is).octet, (split (goal.at.loop-at-smaller c).In-Is).within)
+loop-at-smaller c = omega (arith, c.entry_len-at.ensures, (split (goal.at.loop-at-smaller c).In-Some).octet, (split (goal.at.loop-at-smaller c).In-Some).within)
 
 pub loop-at-preserved : goal.loop-at-preserved
-loop-at-preserved c = rw c.entry_len-at.ensures (left_step order_list _ _ c.loop-at.invariant _ (split (goal.at.loop-at-preserved c).In-Is).within (split (goal.at.loop-at-preserved c).In-Is).splits (none-put _))
+loop-at-preserved c = rw c.entry_len-at.ensures (left_step order_list _ _ c.loop-at.invariant _ (split (goal.at.loop-at-preserved c).In-Some).within (split (goal.at.loop-at-preserved c).In-Some).splits (none-put _))
 
-pub returns-in-Not : goal.returns-in-Not
+pub returns-in_default : goal.returns-in_default
 unfolding is_none
-returns-in-Not c =
-    let e : order_front (drop c.loop-at.at c.args.order.now) ≡ none = sym (ap front_as (sym c.in-Not.is) ∙ rw to_end at c.front_at.ensures) in
+returns-in_default c =
+    let e : order_front (drop c.loop-at.at c.args.order.now) ≡ none = sym (ap front_as (sym c.in_default.is) ∙ rw to_end at c.front_at.ensures) in
     left-stop order_list _ _ c.loop-at.invariant (order-stop _ _ c.loop-at-test.true e)
 
 pub returns : goal.returns

@@ -4,4 +4,4 @@ use Rattle.answers.proofs.Laws.{said-by}
 use Rattle.nas.proofs.nas_kept_push.Goals as goal
 
 pub returns : goal.returns
-returns c = (said-by c.kept_push.ensures.0 c.pushed_said.ensures, c.kept_push.ensures.1)
+returns c = (said-by c.kept_push.ensures.said c.pushed_said.ensures, c.kept_push.ensures.log_after)

@@ -4,4 +4,4 @@ use Rattle.answers.proofs.Laws.{said-by}
 use Rattle.nas.proofs.nas_order_push.Goals as goal
 
 pub returns : goal.returns
-returns c = (said-by c.push_by.ensures.0 c.pushed_said.ensures, c.push_by.ensures.1)
+returns c = (said-by c.push_by.ensures.said c.pushed_said.ensures, c.push_by.ensures.log_after)

@@ -6,16 +6,16 @@ use Rattle.noting.proofs.Own.{answers}
 use Rattle.noting.proofs.decode_noted.Goals as goal
 
 pub returns-then-octets-gt-MOST_OCTETS : goal.returns-then-octets-gt-MOST_OCTETS
-returns-then-octets-gt-MOST_OCTETS c = let q = (let a = c.args in answers a.table.now a.index.now a.tlve_start a.option a.octets.now a.rows.now a.kept.now a.order.now (λ j. omega (arith, c.type_inv.octets j)) (long a.table.now a.index.now a.tlve_start a.option a.octets.now a.rows.now a.kept.now a.order.now (omega arith))) in record { by_index = q.0; own_index = q.1 }
+returns-then-octets-gt-MOST_OCTETS c = let a = c.args in let q = answers a.table.now a.index.now a.tlve_start a.option a.octets.now a.rows.now a.kept.now a.order.now (λ j. omega (arith, c.type_inv.octets j)) (long a.table.now a.index.now a.tlve_start a.option a.octets.now a.rows.now a.kept.now a.order.now (omega arith)) in record { by_index = q.0; own_index = q.1 }
 
 pub returns-then-rows-count : goal.returns-then-rows-count
-returns-then-rows-count c = let q = (let a = c.args in answers a.table.now a.index.now a.tlve_start a.option a.octets.now a.rows.now a.kept.now a.order.now (λ j. omega (arith, c.type_inv.octets j)) (no_rows a.table.now a.index.now a.tlve_start a.option a.octets.now a.rows.now a.kept.now a.order.now (omega arith) (omega (arith, c.places-count.ensures)))) in record { by_index = q.0; own_index = q.1 }
+returns-then-rows-count c = let a = c.args in let q = answers a.table.now a.index.now a.tlve_start a.option a.octets.now a.rows.now a.kept.now a.order.now (λ j. omega (arith, c.type_inv.octets j)) (no_rows a.table.now a.index.now a.tlve_start a.option a.octets.now a.rows.now a.kept.now a.order.now (omega arith) (omega (arith, c.places-count.ensures))) in record { by_index = q.0; own_index = q.1 }
 
 pub returns-then-n-le-MOST_SHORTEST : goal.returns-then-n-le-MOST_SHORTEST
-returns-then-n-le-MOST_SHORTEST c = let q = (let a = c.args in answers a.table.now a.index.now a.tlve_start a.option a.octets.now a.rows.now a.kept.now a.order.now (λ j. omega (arith, c.type_inv.octets j)) c.decode_shortest.ensures) in record { by_index = q.0; own_index = q.1 }
+returns-then-n-le-MOST_SHORTEST c = let a = c.args in let q = answers a.table.now a.index.now a.tlve_start a.option a.octets.now a.rows.now a.kept.now a.order.now (λ j. omega (arith, c.type_inv.octets j)) c.decode_into.ensures in record { by_index = q.0; own_index = q.1 }
 
 pub returns-then-n-le-MOST_ROWS : goal.returns-then-n-le-MOST_ROWS
-returns-then-n-le-MOST_ROWS c = let q = (let a = c.args in answers a.table.now a.index.now a.tlve_start a.option a.octets.now a.rows.now a.kept.now a.order.now (λ j. omega (arith, c.type_inv.octets j)) c.decode_short.ensures) in record { by_index = q.0; own_index = q.1 }
+returns-then-n-le-MOST_ROWS c = let a = c.args in let q = answers a.table.now a.index.now a.tlve_start a.option a.octets.now a.rows.now a.kept.now a.order.now (λ j. omega (arith, c.type_inv.octets j)) c.decode_into-then-n-le-MOST_ROWS.ensures in record { by_index = q.0; own_index = q.1 }
 
 pub returns : goal.returns
-returns c = let q = (let a = c.args in answers a.table.now a.index.now a.tlve_start a.option a.octets.now a.rows.now a.kept.now a.order.now (λ j. omega (arith, c.type_inv.octets j)) c.fill_measured.ensures) in record { by_index = q.0; own_index = q.1 }
+returns c = let a = c.args in let q = answers a.table.now a.index.now a.tlve_start a.option a.octets.now a.rows.now a.kept.now a.order.now (λ j. omega (arith, c.type_inv.octets j)) c.fill_measured.ensures in record { by_index = q.0; own_index = q.1 }

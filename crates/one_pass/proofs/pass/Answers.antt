@@ -9,12 +9,12 @@ use Rattle.one_pass.proofs.Turns.{passing-end, by_names}
 use Rattle.one_pass.proofs.pass.Goals as goal
 
 pub pass_rest-requires : goal.pass_rest-requires
-pass_rest-requires c = let l = rw c.in-To.is at c.pass_entries.ensures in (omega (arith, l.room, l.long), l.inside)
+pass_rest-requires c = let l = rw c.in_ok-pen.was at c.pass_entries.ensures in (omega (arith, l.room, l.long), l.inside)
 
-pub returns-in-To : goal.returns-in-To
-returns-in-To c =
+pub returns : goal.returns
+returns c =
     let a = c.args in
-    rw (sym (by_names (lent_of a.table.now a.rows.now a.received.now a.set.now) a.index.now a.order.now a.kept.now c.names_of-names.ensures c.places.ensures)) (passing-end (lent_of a.table.now a.rows.now a.received.now a.set.now) a.index.now (set_of c.names_of-names.result) a.order.now a.kept.now a.out.now (rw c.in-To.is at c.pass_entries.ensures) c.pass_rest.ensures)
+    rw (sym (by_names (lent_of a.table.now a.rows.now a.received.now a.set.now) a.index.now a.order.now a.kept.now c.names_of-names.ensures c.places.ensures)) (passing-end (lent_of a.table.now a.rows.now a.received.now a.set.now) a.index.now (set_of c.names_of-names.result) a.order.now a.kept.now a.out.now (rw c.in_ok-pen.was at c.pass_entries.ensures) c.pass_rest.ensures)
 
-pub returns-in-Not : goal.returns-in-Not
-returns-in-Not c = let a = c.args in rw (sym (by_names (lent_of a.table.now a.rows.now a.received.now a.set.now) a.index.now a.order.now a.kept.now c.names_of-names.ensures c.places.ensures)) (put-not (rw c.in-Not.is at c.pass_entries.ensures))
+pub returns-in_err-pen : goal.returns-in_err-pen
+returns-in_err-pen c = let a = c.args in rw (sym (by_names (lent_of a.table.now a.rows.now a.received.now a.set.now) a.index.now a.order.now a.kept.now c.names_of-names.ensures c.places.ensures)) (rw c.from_residual.ensures (put-not (rw c.in_err-pen.was at c.pass_entries.ensures)))

@@ -16,16 +16,16 @@ pub pass_kept-requires : goal.pass_kept-requires
 pass_kept-requires c = (c.loop-p-test.true, c.loop-p.invariant.1.inside)
 
 pub loop-p-smaller : goal.loop-p-smaller
-loop-p-smaller c = let k = rw c.in-To.is at c.pass_kept.ensures in omega (arith, k.further, k.inside)
+loop-p-smaller c = let k = rw c.in_ok-p.was at c.pass_kept.ensures in omega (arith, k.further, k.inside)
 
 pub loop-p-preserved : goal.loop-p-preserved
 loop-p-preserved c =
-    let k = rw c.in-To.is at c.pass_kept.ensures in
-    let o = kept_list (drop c.in-To.next.kept c.args.kept.now) in
+    let k = rw c.in_ok-p.was at c.pass_kept.ensures in
+    let o = kept_list (drop c.in_ok-p.p.kept c.args.kept.now) in
     (k.inside, going_on (concat_by o) (going-as (ap concat_by k.rest ∙ concat-next k.element o) c.loop-p.invariant.1) k.holds)
 
-pub returns-in-Not : goal.returns-in-Not
-returns-in-Not c = c.loop-p.invariant.1.leads _ _ (put-not (kept-not (rw c.in-Not.is at c.pass_kept.ensures)))
+pub returns-in_err-p : goal.returns-in_err-p
+returns-in_err-p c = rw c.from_residual.ensures (c.loop-p.invariant.1.leads _ _ (put-not (kept-not (rw c.in_err-p.was at c.pass_kept.ensures))))
 
 pub shape_of-out : goal.shape_of-out
 shape_of-out c = c.loop-p.invariant.1.long

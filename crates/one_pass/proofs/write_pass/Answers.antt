@@ -2,6 +2,7 @@
 -- With a kept log that is too long it writes nothing.
 use native.Mathlib.Omega.{arith}
 use mathlib.Core.Path.{sym, ◌∙◌}
+use borrow.Author.Tests.{eqb-true}
 use lib.ListN.{length}
 use Rattle.definitions.specs.Rows.{rows_of}
 use Rattle.placing.specs.Pieces.{lent_of}
@@ -9,14 +10,14 @@ use Rattle.placing.proofs.Copies.{of-few, of-many}
 use Rattle.one_pass.proofs.Outputs.{without-logs, short-enough, not_short}
 use Rattle.one_pass.proofs.write_pass.Goals as goal
 
-pub returns-then-kept-eq0 : goal.returns-then-kept-eq0
-returns-then-kept-eq0 c = let a = c.args in without-logs (lent_of a.table.now a.rows.now a.received.now a.set.now) a.index.now a.order.now a.kept.now c.if-order-eq0.true c.if-kept-eq0.true c.write_plain.ensures
+pub returns-then-is_empty-2 : goal.returns-then-is_empty-2
+returns-then-is_empty-2 c = let a = c.args in without-logs (lent_of a.table.now a.rows.now a.received.now a.set.now) a.index.now a.order.now a.kept.now (eqb-true _ _ (sym c.is_empty.ensures ∙ c.if-is_empty.true)) (eqb-true _ _ (sym c.is_empty-then-is_empty.ensures ∙ c.if-is_empty-2.true)) c.write_plain.ensures
 
 pub returns-then-kept-gt-MOST_SHORT : goal.returns-then-kept-gt-MOST_SHORT
 returns-then-kept-gt-MOST_SHORT c = let a = c.args in not_short (lent_of a.table.now a.rows.now a.received.now a.set.now) a.index.now a.order.now a.kept.now c.if-kept-gt-MOST_SHORT.true
 
 pub returns-then-is_few : goal.returns-then-is_few
-returns-then-is_few c = let a = c.args in rw (of-few (length (rows_of a.table.now)) (length a.kept.now) (rw c.places.ensures at (sym c.is_few.ensures ∙ c.if-is_few.true))) (rw (short-enough (lent_of a.table.now a.rows.now a.received.now a.set.now) a.index.now a.order.now a.kept.now (omega (arith, c.if-kept-gt-MOST_SHORT.false))) at c.pass_few.ensures)
+returns-then-is_few c = let a = c.args in rw (of-few (length (rows_of a.table.now)) (length a.kept.now) (rw c.places.ensures at (sym c.is_few.ensures ∙ c.if-is_few.true))) (rw (short-enough (lent_of a.table.now a.rows.now a.received.now a.set.now) a.index.now a.order.now a.kept.now (omega (arith, c.if-kept-gt-MOST_SHORT.false))) at c.pass_in.ensures)
 
 pub returns : goal.returns
-returns c = let a = c.args in rw (of-many (length (rows_of a.table.now)) (length a.kept.now) (rw c.places.ensures at (sym c.is_few.ensures ∙ c.if-is_few.false))) (rw (short-enough (lent_of a.table.now a.rows.now a.received.now a.set.now) a.index.now a.order.now a.kept.now (omega (arith, c.if-kept-gt-MOST_SHORT.false))) at c.pass_many.ensures)
+returns c = let a = c.args in rw (of-many (length (rows_of a.table.now)) (length a.kept.now) (rw c.places.ensures at (sym c.is_few.ensures ∙ c.if-is_few.false))) (rw (short-enough (lent_of a.table.now a.rows.now a.received.now a.set.now) a.index.now a.order.now a.kept.now (omega (arith, c.if-kept-gt-MOST_SHORT.false))) at c.pass_in-2.ensures)

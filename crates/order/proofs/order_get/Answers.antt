@@ -1,41 +1,43 @@
--- `order_get` is what a whole walk told of the wanted entry, after the checks of the used count.
--- Each arm names what the walk told.
-use native.Mathlib.Omega.{arith}
-use mathlib.Core.Path.{ap, sym, ◌∙◌}
-use mathlib.Core.Option.{some}
-use lib.ListN.{length-take}
-use Rattle.definitions.specs.Basic.{content}
+-- `order_get` is what a whole walk told, after the check of the used count.
+-- Each way out names what the walk told.
+use mathlib.Core.Bool.{false≢true}
+use mathlib.Core.Path.{◌≡◌, refl, sym, ◌∙◌}
+use Rattle.std.specs.Prelude.{Err}
+use Rattle.std.proofs.lemmas.Result.{err_from_is_err_and}
 use Rattle.definitions.specs.Logs.{order_get}
-use Rattle.definitions.proofs.Logs.{past-buffer, past-limit, not-long, asking-long, asking-bad}
-use Rattle.definitions.proofs.LogWalks.{order_log, told-bad}
+use Rattle.definitions.proofs.Logs.{asking-long}
 use Rattle.kept.specs.Kept.{used_of}
-use Rattle.order.specs.Order.{told_by, wanted_as}
-use Rattle.order.specs.declared.Wanted.{Wanted}
-use Rattle.order.proofs.OrderWalks.{get-log}
+use Rattle.kept.specs.declared.LogError.{LogError}
+use Rattle.kept.proofs.Asked.{long-log, walked, not-walked}
+use Rattle.order.proofs.OrderWalks.{get-log, get-bad, got-found}
 use Rattle.order.proofs.order_get.Goals as goal
 
-pub returns-then-used-log : goal.returns-then-used-log
+pub returns-in_err-content_of : goal.returns-in_err-content_of
 unfolding order_get
-returns-then-used-log c = sym (asking-long _ _ 1 _ (past-buffer 131070 (used_of c.args.log.now c.args.used) (omega arith)))
+returns-in_err-content_of c =
+    let e = c.in_err-content_of.ensures in
+    let l = e.long in
+    let p = err_from_is_err_and c.from_residual.result c.from_residual.ensures.1 in
+    let p1 = p.1 in
+    let p2 = p.2 in
+    let q : c.from_residual.result ≡ Err LogError.TooLong = cc in
+    rw q (sym (asking-long _ _ 1 _ (long-log 131070 (used_of c.args.log.now c.args.used) (λ h. false≢true (e.short.1 h)))))
 
-pub returns-then-used-gt-MOST_LOG : goal.returns-then-used-gt-MOST_LOG
-unfolding order_get
-returns-then-used-gt-MOST_LOG c = sym (asking-long _ _ 1 _ (past-limit 131070 (used_of c.args.log.now c.args.used) (omega arith)))
+pub returns-in_err-walk : goal.returns-in_err-walk
+returns-in_err-walk c =
+    let o = c.in_ok-content_of.ensures in
+    let s = o.short.0 refl in
+    let n = not-walked LogError.Malformed c.walk_order.result (sym c.in_err-walk.was ∙ c.ok_or.ensures.value) in
+    let n1 = n.1 in
+    let p = err_from_is_err_and c.from_residual-in_err-walk.result c.from_residual-in_err-walk.ensures.1 in
+    let p1 = p.1 in
+    let p2 = p.2 in
+    let q : c.from_residual-in_err-walk.result ≡ Err LogError.Malformed = cc in
+    rw q (get-bad _ _ c.args.k s.0 s.1 (rw (n.0, o.content) at c.walk_order.ensures))
 
-pub slice_bounds-walk_order-end : goal.slice_bounds-walk_order-end
-slice_bounds-walk_order-end c = simp length-take (omega arith)
-
-pub returns-in-Met : goal.returns-in-Met
-unfolding told_by wanted_as
-returns-in-Met c =
-    get-log _ _ _ (omega arith) (omega arith) (ap (λ (w : Wanted). some (wanted_as w)) (sym c.in-Met.is) ∙ ap told_by (sym c.in-Log.is) ∙ c.walk_order.ensures)
-
-pub returns-in-NotYet : goal.returns-in-NotYet
-unfolding told_by wanted_as
-returns-in-NotYet c =
-    get-log _ _ _ (omega arith) (omega arith) (ap (λ (w : Wanted). some (wanted_as w)) (sym c.in-NotYet.is) ∙ ap told_by (sym c.in-Log.is) ∙ c.walk_order.ensures)
-
-pub returns-in-Malformed : goal.returns-in-Malformed
-unfolding order_get content told_by wanted_as
-returns-in-Malformed c =
-    sym (asking-bad _ _ 1 _ (not-long 131070 (used_of c.args.log.now c.args.used) (omega arith) (omega arith)) (told-bad order_log _ _ (ap told_by (sym c.in-Malformed.is) ∙ c.walk_order.ensures)))
+pub returns : goal.returns
+returns c =
+    let o = c.in_ok-content_of.ensures in
+    let s = o.short.0 refl in
+    let w = walked LogError.Malformed c.walk_order.result (sym c.in_ok-walk.was ∙ c.ok_or.ensures.value) in
+    got-found _ ∙ get-log _ _ c.args.k s.0 s.1 (rw (w, o.content) at c.walk_order.ensures)

@@ -2,52 +2,71 @@
 -- What the walk over the used octets told decides 11; the numbers compared are the definition's.
 use Prim.Native.Nat.{◌-◌}
 use native.Mathlib.Omega.{arith}
-use mathlib.Core.Path.{refl, ap, sym, ◌∙◌}
+use mathlib.Core.Bool.{false≢true}
+use mathlib.Core.Path.{◌≡◌, refl, ap, sym, ◌∙◌}
 use lib.ListN.{length, take, drop, length-take, length-drop}
-use Rattle.definitions.specs.Basic.{content}
-use Rattle.definitions.specs.Logs.{order_entry, order_push}
+use Rattle.std.specs.Prelude.{Err}
+use Rattle.std.proofs.lemmas.Result.{err_from_is_err_and}
+use Rattle.definitions.specs.Logs.{order_entry}
 use Rattle.definitions.proofs.LogLaws.{order-room}
-use Rattle.definitions.proofs.Logs.{past-buffer}
 use Rattle.definitions.proofs.Lists.{lent-over}
-use Rattle.definitions.proofs.LogWalks.{order_log, told-bad, told-log, push-used, push-over, push-bad, push-full, push-done}
-use Rattle.kept.specs.Kept.{used_of}
-use Rattle.order.specs.Order.{placed_as, wanted_as, told_by}
+use Rattle.kept.specs.Kept.{used_of, push_error}
+use Rattle.kept.specs.declared.PushError.{PushError}
+use Rattle.kept.proofs.Asked.{long-log, walked, not-walked}
 use Rattle.kept.proofs.Entries.{if-room}
+use Rattle.order.specs.Order.{placed_as}
+use Rattle.order.proofs.Pushes.{leaves-used, leaves-over, leaves-bad, leaves-full, leaves-done}
 use Rattle.order.proofs.order_push.Goals as goal
 
-pub returns-then-used-log : goal.returns-then-used-log
-unfolding order_push
-returns-then-used-log c = push-used _ _ _ _ 1 3 (past-buffer 131070 (used_of c.args.log.now c.args.used) (omega arith))
+pub returns-in_err-content : goal.returns-in_err-content
+returns-in_err-content c =
+    let a = c.args in
+    let e = c.in_err-content.ensures in
+    let p = err_from_is_err_and c.from_residual.result c.from_residual.ensures.1 in
+    let p1 = p.1 in
+    let m : p.0 ≡ PushError.TooLong = p.2 ∙ ap push_error e.long in
+    let q : c.from_residual.result ≡ Err PushError.TooLong = cc in
+    let l = leaves-used a.log.now a.used (placed_as a.entry) (long-log 131070 (used_of a.log.now a.used) (λ h. false≢true (e.short.1 h))) in
+    record { said = rw q l.0; log_after = l.1 }
 
 pub overflow_add-after : goal.overflow_add-after
-overflow_add-after c = omega (arith, c.entry_len.ensures, order-room (placed_as c.args.entry))
+overflow_add-after c = let s = c.in_ok-content.ensures.short.0 refl in omega (arith, c.entry_len.ensures, order-room (placed_as c.args.entry))
 
 pub returns-then-after-gt-MOST_LOG : goal.returns-then-after-gt-MOST_LOG
-unfolding order_push
-returns-then-after-gt-MOST_LOG c = push-over _ _ _ _ 1 3 _ c.entry_len.ensures (omega arith)
+returns-then-after-gt-MOST_LOG c =
+    let a = c.args in
+    let l = leaves-over a.log.now a.used (placed_as a.entry) c.entry_len.ensures c.if-after-gt-MOST_LOG.true in
+    record { said = l.0; log_after = l.1 }
 
-pub slice_bounds-walk_order-end-2 : goal.slice_bounds-walk_order-end-2
-slice_bounds-walk_order-end-2 c = simp length-take (omega arith)
+pub returns-in_err-ok_or : goal.returns-in_err-ok_or
+returns-in_err-ok_or c =
+    let a = c.args in
+    let o = c.in_ok-content.ensures in
+    let n = not-walked PushError.Malformed c.walk_order.result (sym c.in_err-ok_or.was ∙ c.ok_or.ensures.value) in
+    let n1 = n.1 in
+    let p = err_from_is_err_and c.from_residual-in_err-ok_or.result c.from_residual-in_err-ok_or.ensures.1 in
+    let p1 = p.1 in
+    let p2 = p.2 in
+    let q : c.from_residual-in_err-ok_or.result ≡ Err PushError.Malformed = cc in
+    let l = leaves-bad a.log.now a.used (placed_as a.entry) c.entry_len.ensures (o.short.0 refl).0 c.if-after-gt-MOST_LOG.false (rw (n.0, o.content) at c.walk_order.ensures) in
+    record { said = rw q l.0; log_after = l.1 }
 
 pub returns-then-after-log : goal.returns-then-after-log
-unfolding order_push content told_by wanted_as
 returns-then-after-log c =
-    push-full _ _ _ _ 1 3 _ c.entry_len.ensures (omega arith) refl (omega arith)
-    (told-log order_log 0 _ (ap told_by (sym c.in-Log.is) ∙ c.walk_order.ensures)).good (omega arith)
-
-pub returns-else-after-log : goal.returns-else-after-log
-unfolding order_push content told_by wanted_as
-returns-else-after-log c =
     let a = c.args in
+    let o = c.in_ok-content.ensures in
+    let w = walked PushError.Malformed c.walk_order.result (sym c.in_ok-ok_or.was ∙ c.ok_or.ensures.value) in
+    let l = leaves-full a.log.now a.used (placed_as a.entry) c.entry_len.ensures (o.short.0 refl).0 c.if-after-gt-MOST_LOG.false (rw (w, o.content) at c.walk_order.ensures) c.if-after-log.true in
+    record { said = l.0; log_after = l.1 }
+
+pub returns : goal.returns
+returns c =
+    let a = c.args in
+    let o = c.in_ok-content.ensures in
+    let s = o.short.0 refl in
     let e = order_entry (placed_as a.entry) in
     let n = c.entry_len.ensures in
     let d = take (length a.log.now - a.used) (drop a.used a.log.now) in
-    let p = push-done (used_of a.log.now a.used) e _ _ 1 3 _ n (omega arith) refl (omega arith)
-    (told-log order_log 0 _ (ap told_by (sym c.in-Log.is) ∙ c.walk_order.ensures)).good (omega arith) in
-    (p.0, rw (c.put_placed.ensures, if-room e d (simp (length-take, length-drop) (omega arith))) (lent-over a.used e a.log.now (omega arith)) ∙ p.1)
-
-pub returns-in-Malformed : goal.returns-in-Malformed
-unfolding order_push content told_by wanted_as
-returns-in-Malformed c =
-    push-bad _ _ _ _ 1 3 _ c.entry_len.ensures (omega arith) refl (omega arith)
-    (told-bad order_log 0 _ (ap told_by (sym c.in-Malformed.is) ∙ c.walk_order.ensures))
+    let w = walked PushError.Malformed c.walk_order.result (sym c.in_ok-ok_or.was ∙ c.ok_or.ensures.value) in
+    let l = leaves-done a.log.now a.used (placed_as a.entry) n s.0 c.if-after-gt-MOST_LOG.false (rw (w, o.content) at c.walk_order.ensures) c.if-after-log.false in
+    record { said = l.0; log_after = rw (c.put_placed.ensures, if-room e d (simp (length-take, length-drop) (omega arith))) (lent-over a.used e a.log.now s.0) ∙ l.1 }

@@ -1,13 +1,10 @@
 -- `put_notes` puts a note a turn: those put so far are the first ones.
--- The measure is the notes left.
-use Prim.Native.Nat.{◌-◌, ◌≤◌}
+-- There are at most 32, so each has room.
+use Prim.Native.Nat.{◌≤◌}
 use mathlib.Core.Path.{◌≡◌}
 use Rattle.answers.specs.Says.{put}
 use Rattle.part_answers.specs.Mandated.{first_notes}
 use Rattle.part_answers.proofs.put_notes.Given as goal
 
 abbrev pub invariant-loop-i : goal.invariant-loop-i
-invariant-loop-i l = (l.i ≤ l.used) × (l.used ≤ 32) × (l.notes ≡ put (first_notes l.i l.from.notes) l.initial.notes)
-
-abbrev pub decreases-loop-i : goal.decreases-loop-i
-decreases-loop-i l = l.used - l.i
+invariant-loop-i l = (l.used ≤ 32) × (l.notes ≡ put (first_notes l.i l.from.notes) l.initial.notes)

@@ -1,5 +1,4 @@
 -- `put_between` puts a place a turn: what is left of the places leads to all of them. Past the end nothing is put.
--- The measure is how many are left.
 use Prim.Native.Nat.{◌+◌, ◌-◌}
 use native.Mathlib.Omega.{arith}
 use mathlib.Core.Path.{refl, sym, ◌∙◌}
@@ -17,24 +16,21 @@ loop-k-init c = (going-begun (omega (arith, c.if-start-out.false)), refl)
 pub put_first-requires : goal.put_first-requires
 put_first-requires c = c.loop-k.invariant.0.inside
 
-pub loop-k-smaller : goal.loop-k-smaller
-loop-k-smaller c = omega (arith, c.loop-k-test.true)
-
 pub loop-k-preserved : goal.loop-k-preserved
 loop-k-preserved c =
     let a = c.args in
     let m = lent_of a.table.now a.rows.now a.received.now a.set.now in
     let k = c.loop-k.k in
-    let p = rw c.in-To.is at c.put_first.ensures.put_by in
+    let p = rw c.in_ok-at.was at c.put_first.ensures.put_by in
     (going_on (ranged m (k + 1) (a.to - (k + 1))) (going-as (ranged-next m k a.to c.loop-k-test.true) c.loop-k.invariant.0) p, c.loop-k.invariant.1 ∙ all-on m k a.to c.loop-k.at c.loop-k.out c.loop-k-test.true p)
 
-pub returns-in-Not : goal.returns-in-Not
-returns-in-Not c =
+pub returns-in_err-at : goal.returns-in_err-at
+returns-in_err-at c =
     let a = c.args in
     let m = lent_of a.table.now a.rows.now a.received.now a.set.now in
     let k = c.loop-k.k in
-    let p = rw c.in-Not.is at c.put_first.ensures.put_by in
-    record { put_by = going-not (ranged m (k + 1) (a.to - (k + 1))) (going-as (ranged-next m k a.to c.loop-k-test.true) c.loop-k.invariant.0) p; out_after = c.put_first.ensures.out_unchanged c.in-Not.is ∙ sym (c.loop-k.invariant.1 ∙ all-stop m k a.to c.loop-k.at c.loop-k.out c.loop-k-test.true p) }
+    let p = rw c.in_err-at.was at c.put_first.ensures.put_by in
+    rw c.from_residual.ensures (record { put_by = going-not (ranged m (k + 1) (a.to - (k + 1))) (going-as (ranged-next m k a.to c.loop-k-test.true) c.loop-k.invariant.0) p; out_after = c.put_first.ensures.out_unchanged c.in_err-at.was ∙ sym (c.loop-k.invariant.1 ∙ all-stop m k a.to c.loop-k.at c.loop-k.out c.loop-k-test.true p) })
 
 pub shape_of-out : goal.shape_of-out
 shape_of-out c = c.loop-k.invariant.0.long

@@ -1,5 +1,4 @@
 -- `put_between` puts a place a turn: what is left of the places leads to all of them. Past the end nothing is put.
--- The measure is how many are left.
 use Prim.Native.Nat.{◌-◌}
 use mathlib.Core.Path.{◌≡◌}
 use Rattle.placing.specs.Pieces.{lent_of, ranged, put_all}
@@ -8,6 +7,3 @@ use Rattle.placing.proofs.put_between.Given as goal
 
 abbrev pub invariant-loop-k : goal.invariant-loop-k
 invariant-loop-k l = Going (ranged (lent_of l.table l.rows l.received l.set) l.from (l.to - l.from)) l.start l.initial.out (ranged (lent_of l.table l.rows l.received l.set) l.k (l.to - l.k)) l.at l.out × (put_all (lent_of l.table l.rows l.received l.set) l.from (l.to - l.from) l.start l.initial.out ≡ put_all (lent_of l.table l.rows l.received l.set) l.k (l.to - l.k) l.at l.out)
-
-abbrev pub decreases-loop-k : goal.decreases-loop-k
-decreases-loop-k l = l.to - l.k

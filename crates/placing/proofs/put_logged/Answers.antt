@@ -6,6 +6,7 @@ use Rattle.placing.specs.Pieces.{lent_of, piece_by}
 use Rattle.placing.proofs.Pieces.{put-not, past-not}
 use Rattle.placing.proofs.Judging.{Took, piece-bad, piece-absent, piece-unlike, piece-took}
 use Rattle.placing.proofs.put_logged.Goals as goal
+use Rattle.placing.proofs.put_logged.Goals.{After-put_ie}
 
 pub returns-then-at-out : goal.returns-then-at-out
 returns-then-at-out c = put-not (past-not _ _ _ c.if-at-out.true)
@@ -17,19 +18,18 @@ pub returns-then-row-eq0 : goal.returns-then-row-eq0
 returns-then-row-eq0 c = let a = c.args in piece-absent a.table.now a.rows.now a.received.now a.set.now a.place a.iei c.row_at-row.result c.row_at-row.ensures (sym c.is_good.ensures ∙ c.if-not-is_good.false) c.if-row-eq0.true (omega (arith, c.if-at-out.false))
 
 pub returns-then-is_unlike : goal.returns-then-is_unlike
-returns-then-is_unlike c = let a = c.args in piece-unlike a.table.now a.rows.now a.received.now a.set.now a.place a.iei c.row_at-row.result c.row_at-row.ensures (sym c.is_good.ensures ∙ c.if-not-is_good.false) c.if-row-eq0.false (sym c.is_unlike.ensures ∙ c.if-is_unlike.true)
+returns-then-is_unlike c = let a = c.args in piece-unlike a.table.now a.rows.now a.received.now a.set.now a.place a.iei c.row_at-row.result c.row_at-row.ensures (sym c.is_good.ensures ∙ c.if-not-is_good.false) c.if-row-eq0.false cc
 
-pub returns-then-took-eq0 : goal.returns-then-took-eq0
-returns-then-took-eq0 c =
-    let took : let a = c.args in Took (piece_by (lent_of a.table.now a.rows.now a.received.now a.set.now) a.place a.iei) a.at a.out.now c.put_ie-took.result c.put_ie-took.new.out = let a = c.args in piece-took a.table.now a.rows.now a.received.now a.set.now a.place a.iei c.row_at-row.result c.row_at-row.ensures (sym c.is_good.ensures ∙ c.if-not-is_good.false) c.if-row-eq0.false (sym c.is_unlike.ensures ∙ c.if-is_unlike.false) (omega (arith, c.ranges.iei)) c.numbers_at-n.ensures c.form_of.ensures c.value_octets-value.ensures.result_value a.at a.out.now (omega (arith, c.if-at-out.false)) c.put_ie-took.ensures in
-    (took).zero c.if-took-eq0.true
+took : (c : After-put_ie) → let a = c.args in Took (piece_by (lent_of a.table.now a.rows.now a.received.now a.set.now) a.place a.iei) a.at a.out.now c.put_ie.result c.put_ie.new.out
+took c =
+    let a = c.args in
+    piece-took a.table.now a.rows.now a.received.now a.set.now a.place a.iei c.row_at-row.result c.row_at-row.ensures (sym c.is_good.ensures ∙ c.if-not-is_good.false) c.if-row-eq0.false (cc) (omega (arith, c.ranges.iei)) c.numbers_at-n.ensures c.form_of-form.ensures c.value_octets-value.ensures.result_value a.at a.out.now (omega (arith, c.if-at-out.false)) c.put_ie.ensures
+
+pub returns-in_err-took : goal.returns-in_err-took
+returns-in_err-took c = rw c.from_residual.ensures ((took (goal.at.returns-in_err-took c).After-put_ie).not_put c.in_err-took.was)
 
 pub overflow_add-result : goal.overflow_add-result
-overflow_add-result c =
-    let took : let a = c.args in Took (piece_by (lent_of a.table.now a.rows.now a.received.now a.set.now) a.place a.iei) a.at a.out.now c.put_ie-took.result c.put_ie-took.new.out = let a = c.args in piece-took a.table.now a.rows.now a.received.now a.set.now a.place a.iei c.row_at-row.result c.row_at-row.ensures (sym c.is_good.ensures ∙ c.if-not-is_good.false) c.if-row-eq0.false (sym c.is_unlike.ensures ∙ c.if-is_unlike.false) (omega (arith, c.ranges.iei)) c.numbers_at-n.ensures c.form_of.ensures c.value_octets-value.ensures.result_value a.at a.out.now (omega (arith, c.if-at-out.false)) c.put_ie-took.ensures in
-    omega (arith, c.well_formed, (took).inside)
+overflow_add-result c = let t = took (goal.at.overflow_add-result c).After-put_ie in omega (arith, c.well_formed, t.inside c.in_ok-took.took c.in_ok-took.was)
 
 pub returns : goal.returns
-returns c =
-    let took : let a = c.args in Took (piece_by (lent_of a.table.now a.rows.now a.received.now a.set.now) a.place a.iei) a.at a.out.now c.put_ie-took.result c.put_ie-took.new.out = let a = c.args in piece-took a.table.now a.rows.now a.received.now a.set.now a.place a.iei c.row_at-row.result c.row_at-row.ensures (sym c.is_good.ensures ∙ c.if-not-is_good.false) c.if-row-eq0.false (sym c.is_unlike.ensures ∙ c.if-is_unlike.false) (omega (arith, c.ranges.iei)) c.numbers_at-n.ensures c.form_of.ensures c.value_octets-value.ensures.result_value a.at a.out.now (omega (arith, c.if-at-out.false)) c.put_ie-took.ensures in
-    (took).more c.if-took-eq0.false
+returns c = (took (goal.at.returns c).After-put_ie).more c.in_ok-took.took c.in_ok-took.was

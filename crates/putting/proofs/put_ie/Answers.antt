@@ -4,9 +4,6 @@ use Rattle.definitions.specs.Values.{fits}
 use Rattle.putting.specs.Puts.{writable, puts}
 use Rattle.putting.proofs.put_ie.Goals as goal
 
-pub returns-in-Half : goal.returns-in-Half
-returns-in-Half c = rw c.in-Half.is c.put_half.ensures
-
 pub returns-in-Fixed : goal.returns-in-Fixed
 unfolding fits writable puts
 returns-in-Fixed c = rw c.in-Fixed.is c.put_fixed.ensures

@@ -1,46 +1,25 @@
--- `put_tlv` stores the IEI and the length and lends the rest for the value, where it fits and there is room.
--- The two pieces together are the element.
-use Prim.Native.Nat.{◌-◌}
+-- `put_tlv` puts the value behind its IEI and its length.
+-- A length over an octet does not fit; any other does, and the rest is a question of room.
 use native.Mathlib.Omega.{arith}
-use mathlib.Core.Path.{◌≡◌, refl, ap, ◌∙◌}
-use mathlib.Core.List.{[], ◌∷◌}
+use mathlib.Core.Path.{refl}
 use borrow.Author.Tests.{le-leb, lt-leb}
-use lib.ListN.{length, set, length-set}
-use borrow.Rule.Slice.PartMut.{put_mid}
-use Rattle.definitions.specs.Basic.{over}
+use lib.ListN.{length}
 use Rattle.definitions.specs.Rows.{tlv}
 use Rattle.definitions.specs.Values.{fits}
 use Rattle.definitions.specs.Writing.{encoded}
-use Rattle.definitions.proofs.Lists.{front-two, length_over}
 use Rattle.putting.specs.Puts.{addable}
-use Rattle.putting.proofs.Putting.{put-not, put-done, not-fit, no_room, all_there, put-value}
+use Rattle.putting.proofs.Putting.{put-not, not-fit, put-fitting, converted, not_converted}
 use Rattle.putting.proofs.put_tlv.Goals as goal
-use Rattle.putting.proofs.put_tlv.Goals.{After-slice_known-2-1}
 
--- what stands in the buffer then
-written : (c : After-slice_known-2-1) → let a = c.args in put_mid 2 (length (set (set a.out.now 0 a.iei) 1 (length a.value.now)) - 2) (set (set a.out.now 0 a.iei) 1 (length a.value.now)) c.put_slice.new.out ≡ over (a.iei ∷ length a.value.now ∷ a.value.now) a.out.now
-written c = let a = c.args in put-value (a.iei ∷ length a.value.now ∷ []) a.value.now a.out.now refl (front-two a.iei (length a.value.now) a.out.now (omega arith)) (omega arith) c.put_slice.ensures
-
-pub returns-then-value-gt255 : goal.returns-then-value-gt255
+pub returns-in_err-n : goal.returns-in_err-n
 unfolding fits
-returns-then-value-gt255 c = let a = c.args in put-not (not-fit tlv 0 a.iei a.value.now a.out.now (lt-leb (length a.value.now) 255 (omega arith)))
-
-pub returns-then-out-value : goal.returns-then-out-value
-unfolding encoded
-returns-then-out-value c = let a = c.args in put-not (no_room tlv 0 a.iei a.value.now a.out.now (omega arith))
-
-pub bounds-out-1 : goal.bounds-out-1
-bounds-out-1 c = simp length-set (omega arith)
-
-pub slice_bounds-put_slice-count : goal.slice_bounds-put_slice-count
-slice_bounds-put_slice-count c = simp length-set (omega arith)
-
-pub slice_bounds-put_slice-start : goal.slice_bounds-put_slice-start
-slice_bounds-put_slice-start c = simp length-set (omega arith)
-
-pub shape_of-out : goal.shape_of-out
-shape_of-out c = let a = c.args in ap length (written (goal.at.shape_of-out c).After-slice_known-2-1) ∙ length_over (a.iei ∷ length a.value.now ∷ a.value.now) a.out.now (omega arith)
+returns-in_err-n c =
+    let a = c.args in
+    rw c.from_residual.ensures (put-not (not-fit tlv 0 a.iei a.value.now a.out.now (lt-leb (length a.value.now) 255 (not_converted c.try_from.result c.try_from.ensures c.in_err-n.ensures.variant))))
 
 pub returns : goal.returns
 unfolding fits addable encoded
-returns c = let a = c.args in put-done (all_there tlv 0 a.iei a.value.now a.out.now (le-leb (length a.value.now) 255 (omega arith)) refl (omega arith)) (omega arith) (written (goal.at.returns c).After-slice_known-2-1)
+returns c =
+    let a = c.args in
+    let w = converted c.try_from.result c.try_from.ensures c.in_ok-n.ensures.value in
+    put-fitting tlv 0 a.iei a.value.now a.out.now (le-leb (length a.value.now) 255 (omega (arith, w.0))) refl (rw w.1 at c.put_headed.ensures)

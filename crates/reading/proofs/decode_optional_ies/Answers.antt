@@ -2,6 +2,7 @@
 -- The rest is `decode_by_index`.
 use mathlib.Core.Path.{◌≡◌, refl, ap, sym, ◌∙◌}
 use mathlib.Core.Option.{none}
+use Rattle.std.proofs.lemmas.Result.{err_from_is_err_and}
 use Rattle.definitions.specs.Rows.{rows_of, first_bad}
 use Rattle.definitions.proofs.Readings.{read-bad}
 use Rattle.checks.specs.Answers.{checked_as}
@@ -14,11 +15,12 @@ use Rattle.reading.proofs.decode_optional_ies.Goals as goal
 pub decode_by_index-requires : goal.decode_by_index-requires
 decode_by_index-requires c =
     let t = c.args.table.now in
-    let p : first_bad (rows_of t) ≡ none = sym c.check_and_index.ensures.0 ∙ ap checked_as c.in-Passes.is in
+    let p : first_bad (rows_of t) ≡ none = sym c.check_and_index.ensures.0 ∙ ap checked_as c.in_ok-check_and_index.was in
     (indexed t _ p (passed-index (rows_of t) _ p c.check_and_index.ensures.1), p)
 
-pub returns-in-BadRow : goal.returns-in-BadRow
-returns-in-BadRow c =
+pub returns-in_err-check_and_index : goal.returns-in_err-check_and_index
+returns-in_err-check_and_index c =
     let a = c.args in
     let l = lent_of a.rows.now a.kept.now a.order.now in
-    refused {l = l} (read-bad a.table.now a.tlve_start a.out_of_sequence a.octets.now l (sym c.check_and_index.ensures.0 ∙ ap checked_as c.in-BadRow.is)) refl
+    let p = err_from_is_err_and c.from_residual.result c.from_residual.ensures.1 in
+    rw (p.1, p.2) (refused {l = l} (read-bad a.table.now a.tlve_start a.out_of_sequence a.octets.now l (sym c.check_and_index.ensures.0 ∙ ap checked_as c.in_err-check_and_index.was)) refl)

@@ -1,12 +1,13 @@
-use Rattle.std.proofs.Common.{sym, ◌∙◌}
-use Rattle.recorded_rows.proofs.Comparing.{all-not, all-on, all-over}
+-- What `all` answers of the numbers behind those that are passed over.
+use Rattle.std.proofs.Common.{eqb, ◌∙◌, drop, rules, tests}
+use Rattle.std.proofs.lemmas.Iterator.{YieldsList-from_slice}
+use Rattle.std.proofs.lemmas.Iterator.Search.{all_from_yields_List}
+use Rattle.std.proofs.lemmas.Iterator.Adapters.{YieldsList-from_skip}
+use Rattle.recorded_rows.proofs.Comparing.{all-same}
 use Rattle.recorded_rows.proofs.is_from.Goals as goal
 
-pub returns-then-s-i : goal.returns-then-s-i
-returns-then-s-i c = sym (c.loop-i.invariant ∙ all-not c.args.x c.args.s.now c.loop-i.i c.loop-i-test.true c.if-s-i.true)
-
-pub loop-i-preserved : goal.loop-i-preserved
-loop-i-preserved c = c.loop-i.invariant ∙ all-on c.args.x c.args.s.now c.loop-i.i c.loop-i-test.true c.if-s-i.false
-
 pub returns : goal.returns
-returns c = sym (c.loop-i.invariant ∙ all-over c.args.x c.args.s.now c.loop-i.i c.loop-i-test.false)
+returns c =
+    let a = c.args in
+    let e = all_from_yields_List (λ y. eqb y a.x) _ _ c.all.result c.all.ensures.ran (YieldsList-from_skip a.at (YieldsList-from_slice a.s.now cc) cc) (λ x b q k. search (rules, tests)) in
+    e ∙ all-same a.x (drop a.at a.s.now)

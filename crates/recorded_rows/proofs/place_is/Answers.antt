@@ -1,5 +1,4 @@
-use Rattle.std.proofs.Common.{sym, ◌∙◌}
-use Rattle.std.proofs.Common.{rules}
+use Rattle.std.proofs.Common.{sym, ◌∙◌, rules}
 use Rattle.recorded_rows.proofs.Comparing.{place-absent, place-there}
 use Rattle.recorded_rows.proofs.place_is.Goals as goal
 
@@ -8,5 +7,6 @@ returns-then-not-is_present c = c.row_is.ensures ∙ sym (place-absent _ _ _ _ (
 
 pub returns : goal.returns
 returns c =
-    let r = rw (c.two.ensures.0, c.two-2.ensures.0, c.octet.ensures, c.after.ensures, c.after-2.ensures, c.after-3.ensures) at c.row_is-2.ensures in
-    r ∙ sym (place-there _ _ _ _ (search rules))
+    let a = c.args in
+    let t = place-there a.place.at a.place.list.now a.rows.now a.row_at {b = a.is_present} (search rules) in
+    cc

@@ -1,5 +1,5 @@
 -- The octets that were decoded stand in the front of the buffer, and no more of them are told.
-use Rattle.std.proofs.Common.{◌≤◌, length, arith}
+use Rattle.std.proofs.Common.{arith}
 use Rattle.std.proofs.Math.ListN.{length-take}
 use Rattle.hex_text.proofs.HexLaws.{front_fits}
 use Rattle.streams.proofs.read_hex.Goals as goal
@@ -8,5 +8,4 @@ pub returns : goal.returns
 returns c =
     let d = c.decode-decoded in
     let f = front_fits _ _ d.ensures.len_value d.ensures.part_after in
-    let h : c.judged.result.len ≤ length d.new.part = omega (arith, f, c.judged.ensures) in
-    (h, simp length-take (omega arith))
+    rw c.in_ok-judged.ensures (f, simp length-take (omega arith))

@@ -10,7 +10,7 @@ use Rattle.unnamed.proofs.Naming.{named_other, named-iei, named-alone, named-ove
 use Rattle.unnamed.proofs.named_in.Goals as goal
 
 pub loop-from-init : goal.loop-from-init
-loop-from-init c = refl
+loop-from-init c = rw c.new-set.ensures
 
 pub loop-from-preserved-then-order-from-gt0 : goal.loop-from-preserved-then-order-from-gt0
 loop-from-preserved-then-order-from-gt0 c =

@@ -1,5 +1,5 @@
 -- `starts_fall` looks at a place a turn: what is left of the places falls where all of them do.
--- Each turn by the place's source. The measure is how many are left.
+-- Each turn by the place's source.
 use Prim.Native.Nat.{◌+◌, ◌-◌}
 use native.Mathlib.Omega.{arith}
 use mathlib.Core.Path.{◌≡◌, ap, sym, ◌∙◌}

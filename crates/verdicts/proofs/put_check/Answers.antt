@@ -2,6 +2,7 @@
 -- Each arm names it; that of an offender joins two lines.
 use native.Mathlib.Omega.{arith}
 use mathlib.Core.Path.{ap, sym, ◌∙◌}
+use Rattle.std.specs.Prelude.{Err}
 use Rattle.checking.specs.Checks.{part_check_as}
 use Rattle.definitions.specs.Listing.{ascii}
 use Rattle.wording.specs.Puts.{said}
@@ -15,30 +16,30 @@ pub put_offender-requires : goal.put_offender-requires
 unfolding said
 put_offender-requires c =
     let n = number-said (omega (arith, c.say-next.ensures.used)) _ c.say_number-used.ensures in
-    (omega (arith, c.say-next.ensures.used, n.used, number_short c.in-Offends.start), ap part_check_as (sym c.in-Offends.is) ∙ c.requires)
+    (omega (arith, c.say-next.ensures.used, n.used, number_short c.in-Err-Offends.start), ap part_check_as (sym (c.in-Err-Offends.is ∙ ap Err (rw c.in-Err-Offends.is at c.in-Err-Offends.field-0-is))) ∙ c.requires)
 
-pub returns-in-Accepted : goal.returns-in-Accepted
+pub returns-in-Ok : goal.returns-in-Ok
 unfolding ascii said
-returns-in-Accepted c = at-text (ap (check_said c.args.number c.args.octets.now) (sym c.in-Accepted.is)) c.say.ensures
+returns-in-Ok c = at-text (ap (check_said c.args.number c.args.octets.now) (sym c.in-Ok.is)) c.say.ensures
 
-pub returns-in-Offends : goal.returns-in-Offends
+pub returns-in-Err-Offends : goal.returns-in-Err-Offends
 unfolding ascii said
-returns-in-Offends c =
+returns-in-Err-Offends c =
     let n = number-said (omega (arith, c.say-next.ensures.used)) _ c.say_number-used.ensures in
-    at-text (ap (check_said c.args.number c.args.octets.now) (sym c.in-Offends.is)) (joined (joined c.say-next.ensures n) c.put_offender.ensures)
+    at-text (ap (check_said c.args.number c.args.octets.now) (sym (c.in-Err-Offends.is ∙ ap Err (rw c.in-Err-Offends.is at c.in-Err-Offends.field-0-is)))) (joined (joined c.say-next.ensures n) c.put_offender.ensures)
 
-pub returns-in-CutShort : goal.returns-in-CutShort
+pub returns-in-Err-CutShort : goal.returns-in-Err-CutShort
 unfolding ascii
-returns-in-CutShort c = at-text (ap (check_said c.args.number c.args.octets.now) (sym c.in-CutShort.is)) (cut-said (omega arith) _ _ _ _ c.say_cut.ensures)
+returns-in-Err-CutShort c = at-text (ap (check_said c.args.number c.args.octets.now) (sym (c.in-Err-CutShort.is ∙ ap Err (rw c.in-Err-CutShort.is at c.in-Err-CutShort.field-0-is)))) (cut-said (omega arith) _ _ _ _ c.say_cut.ensures)
 
-pub returns-in-TooLong : goal.returns-in-TooLong
+pub returns-in-Err-TooLong : goal.returns-in-Err-TooLong
 unfolding ascii said
-returns-in-TooLong c = at-text (ap (check_said c.args.number c.args.octets.now) (sym c.in-TooLong.is)) c.say-in-TooLong.ensures
+returns-in-Err-TooLong c = at-text (ap (check_said c.args.number c.args.octets.now) (sym (c.in-Err-TooLong.is ∙ ap Err (rw c.in-Err-TooLong.is at c.in-Err-TooLong.field-0-is)))) c.say-in-Err-TooLong.ensures
 
-pub returns-in-BadTable : goal.returns-in-BadTable
+pub returns-in-Err-BadTable : goal.returns-in-Err-BadTable
 unfolding ascii
-returns-in-BadTable c = at-text (ap (check_said c.args.number c.args.octets.now) (sym c.in-BadTable.is)) (put-none c.args.out.now 0)
+returns-in-Err-BadTable c = at-text (ap (check_said c.args.number c.args.octets.now) (sym (c.in-Err-BadTable.is ∙ ap Err (rw c.in-Err-BadTable.is at c.in-Err-BadTable.field-0-is)))) (put-none c.args.out.now 0)
 
-pub returns-in-NoTable : goal.returns-in-NoTable
+pub returns-in-Err-NoTable : goal.returns-in-Err-NoTable
 unfolding ascii
-returns-in-NoTable c = at-text (ap (check_said c.args.number c.args.octets.now) (sym c.in-NoTable.is)) (put-none c.args.out.now 0)
+returns-in-Err-NoTable c = at-text (ap (check_said c.args.number c.args.octets.now) (sym (c.in-Err-NoTable.is ∙ ap Err (rw c.in-Err-NoTable.is at c.in-Err-NoTable.field-0-is)))) (put-none c.args.out.now 0)

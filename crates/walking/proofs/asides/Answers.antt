@@ -1,16 +1,14 @@
--- `asides` passes an octet a turn: the invariant says that none so far is 0. The measure is what is left of the log.
-use native.Mathlib.Omega.{arith}
-use Rattle.walking.proofs.Runs.{no-zero-more}
+-- `asides` is the position of the first 0, or the whole length: none before it is 0.
+use Prim.Native.Nat.{◌≤◌}
+use mathlib.Core.Path.{◌≡◌}
+use borrow.Author.Tests.{tests}
+use Rattle.std.proofs.Common.{rules}
+use Rattle.std.proofs.lemmas.Iterator.{YieldsList-from_slice, IsFirst-from_position}
+use Rattle.walking.proofs.Runs.{aside-by}
 use Rattle.walking.proofs.asides.Goals as goal
 
-pub loop-n-init : goal.loop-n-init
-loop-n-init c = (omega arith, λ j h. absurd (omega arith))
-
-pub returns-then-order-n-eq0 : goal.returns-then-order-n-eq0
-returns-then-order-n-eq0 c = (c.loop-n.invariant.0, c.loop-n.invariant.1, λ h. omega arith)
-
-pub loop-n-preserved : goal.loop-n-preserved
-loop-n-preserved c = (omega arith, no-zero-more c.args.order.now c.loop-n.n c.loop-n.invariant.1 (omega arith))
-
 pub returns : goal.returns
-returns c = (c.loop-n.invariant.0, c.loop-n.invariant.1, λ h. absurd (omega arith))
+returns c =
+    let s = c.args.order.now in
+    let f = IsFirst-from_position _ _ c.position.result (λ x. x ≡ 0) (λ x. 1 ≤ x) c.position.ensures.ran (YieldsList-from_slice s cc) (λ x q k. search (rules, tests)) (λ x q k. search (rules, tests)) in
+    rw c.unwrap_or.ensures (aside-by s c.position.result f)

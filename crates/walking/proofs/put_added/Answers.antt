@@ -1,5 +1,4 @@
 -- `put_added` takes a place a turn: the invariant says that what is left of the added elements gives the buffer of all of them.
--- The measure is how many places are left.
 use Prim.Native.Nat.{◌+◌, ◌-◌}
 use mathlib.Core.List.{[], ◌∷◌}
 use Rattle.seen.specs.Seen.{set_of}

@@ -10,4 +10,4 @@ use Rattle.walking.proofs.put_left.Goals as goal
 pub returns : goal.returns
 returns c =
     let a = c.args in
-    lays-as c.put_run-p.ensures.lays (nexts-all (length a.kept.now) (elements_from a.kept.now a.pen.kept) (elements-few a.kept.now a.pen.kept))
+    lays-as c.put_run.ensures.lays (nexts-all (length a.kept.now) (elements_from a.kept.now a.pen.kept) (elements-few a.kept.now a.pen.kept))

@@ -9,5 +9,5 @@ use Rattle.walking.specs.Walks.{laid_at}
 use Rattle.walking.proofs.Runs.{added_none}
 use Rattle.walking.proofs.put_lower.Goals as goal
 
-pub returns-then-seen_none : goal.returns-then-seen_none
-returns-then-seen_none c = let a = c.args in record { is = sym (added_none (lent_of a.table.now a.rows.now a.received.now a.set.now) (eqb-true (set_of a.added) 0 (sym c.seen_none.ensures ∙ c.if-seen_none.true)) a.from (a.to - a.from) (laid_at a.at a.output.now)) }
+pub returns-then-is_empty : goal.returns-then-is_empty
+returns-then-is_empty c = let a = c.args in record { is = sym (added_none (lent_of a.table.now a.rows.now a.received.now a.set.now) (eqb-true (set_of a.added) 0 (sym c.is_empty.ensures ∙ c.if-is_empty.true)) a.from (a.to - a.from) (laid_at a.at a.output.now)) }

@@ -11,11 +11,11 @@ returns-then-row-eq0 c = let a = c.args in rw (element-absent a.table.now a.rows
 pub overflow_add-result : goal.overflow_add-result
 overflow_add-result c =
     let a = c.args in
-    let p = element-put a.table.now a.rows.now a.received.now a.set.now a.place a.iei c.row_at-row.result c.row_at-row.ensures c.if-row-eq0.false c.numbers_at-n.ensures c.form_of.ensures c.value_octets-value.ensures.result_value a.at a.output.now c.requires c.put_ie.ensures in
-    omega (arith, c.well_formed, lays-inside p c.requires, lays-long p c.requires)
+    let p = element-put a.table.now a.rows.now a.received.now a.set.now a.place a.iei c.row_at-row.result c.row_at-row.ensures c.if-row-eq0.false c.numbers_at-n.ensures c.form_of-form.ensures c.value_octets-value.ensures.result_value a.at a.output.now c.requires c.put_ie-took.ensures in
+    omega (arith, c.well_formed, lays-inside p c.requires, lays-long p c.requires, c.unwrap_or.ensures)
 
 -- the element, put
 pub returns : goal.returns
 returns c =
     let a = c.args in
-    element-put a.table.now a.rows.now a.received.now a.set.now a.place a.iei c.row_at-row.result c.row_at-row.ensures c.if-row-eq0.false c.numbers_at-n.ensures c.form_of.ensures c.value_octets-value.ensures.result_value a.at a.output.now c.requires c.put_ie.ensures
+    rw c.unwrap_or.ensures (element-put a.table.now a.rows.now a.received.now a.set.now a.place a.iei c.row_at-row.result c.row_at-row.ensures c.if-row-eq0.false c.numbers_at-n.ensures c.form_of-form.ensures c.value_octets-value.ensures.result_value a.at a.output.now c.requires c.put_ie-took.ensures)

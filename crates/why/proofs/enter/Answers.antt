@@ -1,19 +1,25 @@
 -- `enter` sets the entry of a place that is one of 128 and was not met.
--- By both tests.
+-- By the place and both tests.
 use native.Mathlib.Omega.{arith}
-use mathlib.Core.Path.{sym, ◌∙◌}
+use mathlib.Core.Path.{refl, sym, ◌∙◌}
 use borrow.Author.Tests.{lt-ltb, le-ltb}
 use Rattle.why.specs.Whys.{entered}
 use Rattle.why.proofs.enter.Goals as goal
+use Rattle.why.proofs.enter.Goals.{else-place-lt128-via-then-place-lt128+else-not-has, else-place-lt128-via-else-place-lt128}
 
-pub returns-then-not-seen_has : goal.returns-then-not-seen_has
+pub returns-in_default : goal.returns-in_default
 unfolding entered
-returns-then-not-seen_has c = let a = c.args in rw (lt-ltb a.place 128 (omega arith), sym c.seen_has.ensures ∙ c.if-not-seen_has.true)
+returns-in_default c = rw c.in_default.is refl
 
-pub returns-else-not-seen_has : goal.returns-else-not-seen_has
+pub returns-then-not-has : goal.returns-then-not-has
 unfolding entered
-returns-else-not-seen_has c = let a = c.args in rw (lt-ltb a.place 128 (omega arith), sym c.seen_has.ensures ∙ c.if-not-seen_has.false)
+returns-then-not-has c = rw (c.in-Some.is, lt-ltb c.in-Some.place 128 (omega arith), sym c.has.ensures ∙ c.if-not-has.true) refl
 
 pub returns-else-place-lt128 : goal.returns-else-place-lt128
 unfolding entered
-returns-else-place-lt128 c = rw (le-ltb c.args.place 128 (omega arith))
+returns-else-place-lt128 c =
+    elim
+    c.else-place-lt128.branch [
+      | else-place-lt128-via-then-place-lt128+else-not-has w ↦ rw (c.in-Some.is, lt-ltb c.in-Some.place 128 (omega (arith, w.if-place-lt128.true)), sym w.has.ensures ∙ w.if-not-has.false) refl
+      | else-place-lt128-via-else-place-lt128 w ↦ rw (c.in-Some.is, le-ltb c.in-Some.place 128 (omega (arith, w.if-place-lt128.false))) refl
+    ]

@@ -1,16 +1,7 @@
 -- `ground` goes by how the element came; one that was set aside is judged by its own octets and its row.
 -- Each arm names what it was.
-use mathlib.Core.Path.{ap, sym, ◌∙◌}
-use lib.ListN.{take, drop}
-use Rattle.rows.specs.Numbers.{numbers_at, row_said}
-use Rattle.why.specs.Whys.{placed_by}
+use mathlib.Core.Path.{refl}
 use Rattle.why.proofs.ground.Goals as goal
 
-pub returns-in-Known : goal.returns-in-Known
-returns-in-Known c = sym (ap (placed_by (take c.args.e.len (drop c.args.e.start c.args.octets.now)) (row_said (numbers_at c.args.table.now c.args.e.place)) c.args.starts.now c.args.highest c.args.e.place) c.in-Known.is)
-
-pub returns-in-Unknown : goal.returns-in-Unknown
-returns-in-Unknown c = sym (ap (placed_by (take c.args.e.len (drop c.args.e.start c.args.octets.now)) (row_said (numbers_at c.args.table.now c.args.e.place)) c.args.starts.now c.args.highest c.args.e.place) c.in-Unknown.is)
-
-pub returns-in-Ignored : goal.returns-in-Ignored
-returns-in-Ignored c = rw (c.part.ensures.result_value, c.numbers_at.ensures) at c.aside.ensures ∙ sym (ap (placed_by (take c.args.e.len (drop c.args.e.start c.args.octets.now)) (row_said (numbers_at c.args.table.now c.args.e.place)) c.args.starts.now c.args.highest c.args.e.place) c.in-Ignored.is)
+pub returns-in-Known-default : goal.returns-in-Known-default
+returns-in-Known-default c = rw c.in-Known-default.is-0 refl

@@ -9,4 +9,4 @@ pub returns-then-used-ge-LIMIT : goal.returns-then-used-ge-LIMIT
 returns-then-used-ge-LIMIT c = put-far _ _ _ (omega arith)
 
 pub returns : goal.returns
-returns c = put-said (omega arith) (omega (arith, cut_short_lem c.args.start c.args.x c.args.left c.args.missing)) c.put_cut.ensures
+returns c = put-said (omega arith) (omega (arith, cut_short_lem c.args.cut.start c.args.cut.first c.args.cut.left c.args.cut.missing)) c.put_cut.ensures

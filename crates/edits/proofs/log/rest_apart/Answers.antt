@@ -1,5 +1,5 @@
 -- `rest_apart` judges a row a turn: the invariant says that none before disagreed, so that the rest decides.
--- The measure is what is left to look at.
+-- What is left from a row on decides as all do.
 use Prim.Native.Nat.{ℕ, ◌-◌}
 use native.Mathlib.Omega.{arith}
 use mathlib.Core.Path.{◌≡◌, ap, sym, ◌∙◌}
@@ -16,22 +16,19 @@ use Rattle.agreement.specs.Agreed.{apart_by}
 use Rattle.edits.proofs.log.rest_apart.Goals as goal
 
 pub loop-k-init : goal.loop-k-init
-loop-k-init c = let z : c.places-n.result - 0 ≡ c.places-n.result = omega arith in (c.places-n.ensures, omega arith, ap (first_from (λ j. apart_by c.args.rows.now (set_of c.args.seen) j (first_iei (rows_of c.args.table.now) j)) 0) z)
+loop-k-init c = let z : c.places-k-end.result - 0 ≡ c.places-k-end.result = omega arith in (c.places-k-end.ensures, omega arith, ap (first_from (λ j. apart_by c.args.rows.now (set_of c.args.seen) j (first_iei (rows_of c.args.table.now) j)) 0) z)
 
 pub returns-then-apart_with : goal.returns-then-apart_with
 unfolding is_none
 returns-then-apart_with c =
-    let here : apart_by c.args.rows.now (set_of c.args.seen) c.loop-k.k (first_iei (rows_of c.args.table.now) c.loop-k.k) ≡ c.apart_with.result = sym (c.apart_with.ensures ∙ ap (apart_by c.args.rows.now (set_of c.args.seen) c.loop-k.k) (ap (λ (n : Numbers). n.first) c.numbers_at-row.ensures ∙ (whole-rows c.args.table.now (c.requires)).first c.loop-k.k)) in
-    let e = sym c.loop-k.invariant.2 ∙ first-here (λ j. apart_by c.args.rows.now (set_of c.args.seen) j (first_iei (rows_of c.args.table.now) j)) c.places-n.result c.loop-k.k (omega arith) (here ∙ c.if-apart_with.true) in sym (ap (λ (m : ℕ). not (is_none (first_from (λ j. apart_by c.args.rows.now (set_of c.args.seen) j (first_iei (rows_of c.args.table.now) j)) 0 m))) (sym c.loop-k.invariant.0) ∙ rw e)
-
-pub overflow_add-k : goal.overflow_add-k
-overflow_add-k c = omega (arith, c.loop-k.invariant.0, few-places (rows_of c.args.table.now) (c.requires))
+    let here : apart_by c.args.rows.now (set_of c.args.seen) c.loop-k.k (first_iei (rows_of c.args.table.now) c.loop-k.k) ≡ c.apart_with.result = sym (c.apart_with.ensures ∙ ap (apart_by c.args.rows.now (set_of c.args.seen) c.loop-k.k) (ap (λ (n : Numbers). n.first) c.numbers_at.ensures ∙ (whole-rows c.args.table.now (c.requires)).first c.loop-k.k)) in
+    let e = sym c.loop-k.invariant.2 ∙ first-here (λ j. apart_by c.args.rows.now (set_of c.args.seen) j (first_iei (rows_of c.args.table.now) j)) c.places-k-end.result c.loop-k.k (omega arith) (here ∙ c.if-apart_with.true) in sym (ap (λ (m : ℕ). not (is_none (first_from (λ j. apart_by c.args.rows.now (set_of c.args.seen) j (first_iei (rows_of c.args.table.now) j)) 0 m))) (sym c.loop-k.invariant.0) ∙ rw e)
 
 pub loop-k-preserved : goal.loop-k-preserved
 loop-k-preserved c =
-    let here : apart_by c.args.rows.now (set_of c.args.seen) c.loop-k.k (first_iei (rows_of c.args.table.now) c.loop-k.k) ≡ c.apart_with.result = sym (c.apart_with.ensures ∙ ap (apart_by c.args.rows.now (set_of c.args.seen) c.loop-k.k) (ap (λ (n : Numbers). n.first) c.numbers_at-row.ensures ∙ (whole-rows c.args.table.now (c.requires)).first c.loop-k.k)) in
-    (c.loop-k.invariant.0, omega arith, first-further (λ j. apart_by c.args.rows.now (set_of c.args.seen) j (first_iei (rows_of c.args.table.now) j)) c.places-n.result c.loop-k.k (omega arith) (here ∙ c.if-apart_with.false) ∙ c.loop-k.invariant.2)
+    let here : apart_by c.args.rows.now (set_of c.args.seen) c.loop-k.k (first_iei (rows_of c.args.table.now) c.loop-k.k) ≡ c.apart_with.result = sym (c.apart_with.ensures ∙ ap (apart_by c.args.rows.now (set_of c.args.seen) c.loop-k.k) (ap (λ (n : Numbers). n.first) c.numbers_at.ensures ∙ (whole-rows c.args.table.now (c.requires)).first c.loop-k.k)) in
+    (c.loop-k.invariant.0, omega arith, first-further (λ j. apart_by c.args.rows.now (set_of c.args.seen) j (first_iei (rows_of c.args.table.now) j)) c.places-k-end.result c.loop-k.k (omega arith) (here ∙ c.if-apart_with.false) ∙ c.loop-k.invariant.2)
 
 pub returns : goal.returns
 unfolding is_none
-returns c = let e = sym c.loop-k.invariant.2 ∙ first-over (λ j. apart_by c.args.rows.now (set_of c.args.seen) j (first_iei (rows_of c.args.table.now) j)) c.places-n.result c.loop-k.k (omega arith) in sym (ap (λ (m : ℕ). not (is_none (first_from (λ j. apart_by c.args.rows.now (set_of c.args.seen) j (first_iei (rows_of c.args.table.now) j)) 0 m))) (sym c.loop-k.invariant.0) ∙ rw e)
+returns c = let e = sym c.loop-k.invariant.2 ∙ first-over (λ j. apart_by c.args.rows.now (set_of c.args.seen) j (first_iei (rows_of c.args.table.now) j)) c.places-k-end.result c.loop-k.k (omega arith) in sym (ap (λ (m : ℕ). not (is_none (first_from (λ j. apart_by c.args.rows.now (set_of c.args.seen) j (first_iei (rows_of c.args.table.now) j)) 0 m))) (sym c.loop-k.invariant.0) ∙ rw e)

@@ -1,5 +1,5 @@
 -- `rest_apart` judges a row a turn: the invariant says that none before disagreed, so that the rest decides.
--- The measure is what is left to look at.
+-- What is left from a row on decides as all do.
 use Prim.Native.Nat.{◌-◌, ◌≤◌}
 use mathlib.Core.Path.{◌≡◌}
 use lib.ListN.{length}
@@ -10,7 +10,4 @@ use Rattle.agreement.specs.Agreed.{apart_by}
 use Rattle.edits.proofs.log.rest_apart.Given as goal
 
 abbrev pub invariant-loop-k : goal.invariant-loop-k
-invariant-loop-k l = (l.n ≡ length (rows_of l.table)) × (l.k ≤ l.n) × (first_from (λ j. apart_by l.rows (set_of l.seen) j (first_iei (rows_of l.table) j)) l.k (l.n - l.k) ≡ first_from (λ j. apart_by l.rows (set_of l.seen) j (first_iei (rows_of l.table) j)) 0 l.n)
-
-abbrev pub decreases-loop-k : goal.decreases-loop-k
-decreases-loop-k l = l.n - l.k
+invariant-loop-k l = (l.k-end ≡ length (rows_of l.table)) × (l.k ≤ l.k-end) × (first_from (λ j. apart_by l.rows (set_of l.seen) j (first_iei (rows_of l.table) j)) l.k (l.k-end - l.k) ≡ first_from (λ j. apart_by l.rows (set_of l.seen) j (first_iei (rows_of l.table) j)) 0 l.k-end)

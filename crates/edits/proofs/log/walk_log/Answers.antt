@@ -13,32 +13,32 @@ use Rattle.rows.specs.declared.columns.Numbers.{Numbers}
 use Rattle.rows.proofs.WholeRows.{whole-rows}
 use Rattle.edits.proofs.Logged.{walking-begun, walking-step, walking-ended}
 use Rattle.edits.proofs.log.walk_log.Goals as goal
-use Rattle.edits.proofs.log.walk_log.Goals.{In-Is}
+use Rattle.edits.proofs.log.walk_log.Goals.{In-Some}
 
 pub loop-at-init : goal.loop-at-init
-loop-at-init c = let e : c.numbers_at-row.result.first ≡ first_iei (rows_of c.args.table.now) c.args.want = ap (λ (n : Numbers). n.first) c.numbers_at-row.ensures ∙ (whole-rows c.args.table.now c.requires.0.passes).first c.args.want in rw e (walking-begun (rows_of c.args.table.now) c.args.rows.now c.args.want c.args.order.now c.requires.2)
+loop-at-init c = let e : c.numbers_at-row.result.first ≡ first_iei (rows_of c.args.table.now) c.args.want = ap (λ (n : Numbers). n.first) c.numbers_at-row.ensures ∙ (whole-rows c.args.table.now c.requires.0.passes).first c.args.want in rw (c.new.ensures, e) (walking-begun (rows_of c.args.table.now) c.args.rows.now c.args.want c.args.order.now c.requires.2)
 
 -- the entry at the position
-front : (c : In-Is) → order_front (drop c.loop-at.at c.args.order.now) ≡ some (placed_as c.in-Is.entry)
-front c = sym (ap front_as (sym c.in-Is.is) ∙ rw to_end at c.front_at.ensures)
+front : (c : In-Some) → order_front (drop c.loop-at.at c.args.order.now) ≡ some (placed_as c.in-Some.entry)
+front c = sym (rw to_end at c.in-Some.ensures)
 
-split : (c : In-Is) → OrderEntry c.args.order.now c.loop-at.at c.loop-at-test.true (placed_as c.in-Is.entry)
+split : (c : In-Some) → OrderEntry c.args.order.now c.loop-at.at c.loop-at-test.true (placed_as c.in-Some.entry)
 split c = order-split c.args.order.now c.loop-at.at c.loop-at-test.true (front c)
 
 pub with_entry-a-requires : goal.with_entry-a-requires
 with_entry-a-requires c = c.requires.0
 
 pub overflow_add-at : goal.overflow_add-at
-overflow_add-at c = omega (arith, c.entry_len-at.ensures, (split (goal.at.overflow_add-at c).In-Is).within, c.requires.1)
+overflow_add-at c = omega (arith, c.entry_len-at.ensures, (split (goal.at.overflow_add-at c).In-Some).within, c.requires.1)
 
 pub loop-at-smaller : goal.loop-at-smaller
-loop-at-smaller c = omega (arith, c.entry_len-at.ensures, (split (goal.at.loop-at-smaller c).In-Is).octet, (split (goal.at.loop-at-smaller c).In-Is).within)
+loop-at-smaller c = omega (arith, c.entry_len-at.ensures, (split (goal.at.loop-at-smaller c).In-Some).octet, (split (goal.at.loop-at-smaller c).In-Some).within)
 
 pub loop-at-preserved : goal.loop-at-preserved
-loop-at-preserved c = rw c.entry_len-at.ensures (walking-step (rows_of c.args.table.now) c.args.rows.now c.args.want c.args.order.now c.requires.0.passes c.loop-at.at c.loop-at.a c.loop-at.invariant c.loop-at-test.true (front (goal.at.loop-at-preserved c).In-Is) c.with_entry-a.ensures)
+loop-at-preserved c = rw c.entry_len-at.ensures (walking-step (rows_of c.args.table.now) c.args.rows.now c.args.want c.args.order.now c.requires.0.passes c.loop-at.at c.loop-at.a c.loop-at.invariant c.loop-at-test.true (front (goal.at.loop-at-preserved c).In-Some) c.with_entry-a.ensures)
 
-pub returns-in-Not : goal.returns-in-Not
-returns-in-Not c = let e : order_front (drop c.loop-at.at c.args.order.now) ≡ none = sym (ap front_as (sym c.in-Not.is) ∙ rw to_end at c.front_at.ensures) in absurd (order-never _ _ c.loop-at-test.true c.loop-at.invariant.here e)
+pub returns-in_default : goal.returns-in_default
+returns-in_default c = let e : order_front (drop c.loop-at.at c.args.order.now) ≡ none = sym (rw to_end at c.in_default.ensures) in absurd (order-never _ _ c.loop-at-test.true c.loop-at.invariant.here e)
 
 pub returns : goal.returns
 returns c = walking-ended (rows_of c.args.table.now) c.args.rows.now c.args.want c.args.order.now c.loop-at.at c.loop-at.a c.loop-at.invariant c.loop-at-test.false

@@ -7,15 +7,15 @@ use Rattle.rows.specs.Answers.{place_as}
 use Rattle.edits.proofs.Logged.{place_found, place-low, with-known, with-nowhere, with-unknown, with-ignored}
 use Rattle.edits.proofs.log.with_entry.Goals as goal
 
-pub returns-in-At : goal.returns-in-At
-returns-in-At c =
+pub returns-in-Some : goal.returns-in-Some
+returns-in-Some c =
     let found : place_as c.place_of.result ≡ place_of (rows_of c.args.table.now) c.in-Known.iei = c.place_of.ensures ∙ place_found c.args.table.now c.args.index.now c.in-Known.iei (c.requires) (omega arith) in
-    rw c.in-Known.is (with-known (rows_of c.args.table.now) c.args.rows.now c.args.want c.args.a c.in-Known.iei c.in-At.k (sym (found) ∙ ap place_as c.in-At.is) (place-low (rows_of c.args.table.now) c.in-Known.iei c.in-At.k c.requires.passes (sym (found) ∙ ap place_as c.in-At.is)) c.seen_with.ensures c.apart_with.ensures c.iei_with.ensures)
+    rw c.in-Known.is (with-known (rows_of c.args.table.now) c.args.rows.now c.args.want c.args.a c.in-Known.iei c.in-Some.k (sym (found) ∙ ap place_as c.in-Some.is) (place-low (rows_of c.args.table.now) c.in-Known.iei c.in-Some.k c.requires.passes (sym (found) ∙ ap place_as c.in-Some.is)) c.with.ensures c.apart_with.ensures c.iei_with.ensures)
 
-pub returns-in-Nowhere : goal.returns-in-Nowhere
-returns-in-Nowhere c =
+pub returns-in-None : goal.returns-in-None
+returns-in-None c =
     let found : place_as c.place_of.result ≡ place_of (rows_of c.args.table.now) c.in-Known.iei = c.place_of.ensures ∙ place_found c.args.table.now c.args.index.now c.in-Known.iei (c.requires) (omega arith) in
-    rw c.in-Known.is (with-nowhere (rows_of c.args.table.now) c.args.rows.now c.args.want c.args.a c.in-Known.iei (sym (found) ∙ ap place_as c.in-Nowhere.is))
+    rw c.in-Known.is (with-nowhere (rows_of c.args.table.now) c.args.rows.now c.args.want c.args.a c.in-Known.iei (sym (found) ∙ ap place_as c.in-None.is))
 
 pub returns-in-Unknown : goal.returns-in-Unknown
 returns-in-Unknown c = rw c.in-Unknown.is (with-unknown (rows_of c.args.table.now) c.args.rows.now c.args.want c.args.a)

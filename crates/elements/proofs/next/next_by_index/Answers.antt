@@ -1,9 +1,10 @@
 -- `next_by_index` is the step within the limit.
--- Each arm names what the step answered.
+-- By what the step answered.
 use native.Mathlib.Omega.{arith}
 use mathlib.Core.Path.{ap, sym, ◌∙◌}
 use borrow.Author.Tests.{lt-ltb, le-ltb}
 use lib.ListN.{length}
+use Rattle.std.proofs.lemmas.Result.{err_from_is_err_and}
 use Rattle.elements.specs.Nexts.{next_as, next_from}
 use Rattle.elements.proofs.next.next_by_index.Goals as goal
 
@@ -11,14 +12,12 @@ pub returns-then-octets-gt-MOST_OCTETS : goal.returns-then-octets-gt-MOST_OCTETS
 unfolding next_from
 returns-then-octets-gt-MOST_OCTETS c = rw (lt-ltb 65535 (length c.args.octets.now) (omega arith))
 
-pub returns-in-Next : goal.returns-in-Next
+pub returns-in_err-step : goal.returns-in_err-step
 unfolding next_from
-returns-in-Next c = rw (le-ltb 65535 (length c.args.octets.now) (omega arith)) (ap next_as (sym c.in-Next.is ∙ c.element_step.ensures.own_index c.requires))
+returns-in_err-step c =
+    let p = err_from_is_err_and c.from_residual.result c.from_residual.ensures.1 in
+    rw (p.1, p.2, le-ltb 65535 (length c.args.octets.now) (omega arith)) (ap next_as (sym c.in_err-step.was ∙ c.element_step.ensures.own_index c.requires))
 
-pub returns-in-Cut : goal.returns-in-Cut
+pub returns : goal.returns
 unfolding next_from
-returns-in-Cut c = rw (le-ltb 65535 (length c.args.octets.now) (omega arith)) (ap next_as (sym c.in-Cut.is ∙ c.element_step.ensures.own_index c.requires))
-
-pub returns-in-End : goal.returns-in-End
-unfolding next_from
-returns-in-End c = rw (le-ltb 65535 (length c.args.octets.now) (omega arith)) (ap next_as (sym c.in-End.is ∙ c.element_step.ensures.own_index c.requires))
+returns c = rw (le-ltb 65535 (length c.args.octets.now) (omega arith)) (ap next_as (sym c.in_ok-step.was ∙ c.element_step.ensures.own_index c.requires))

@@ -3,6 +3,7 @@
 use Prim.Native.Nat.{ℕ}
 use mathlib.Core.Path.{◌≡◌, ap, sym, ◌∙◌}
 use mathlib.Core.Option.{Option, none}
+use Rattle.std.proofs.lemmas.Result.{err_from_is_err_and}
 use Rattle.definitions.specs.Rows.{rows_of, first_bad}
 use Rattle.checks.specs.Answers.{checked_as}
 use Rattle.checks.proofs.Laws.{passed-index}
@@ -11,12 +12,20 @@ use Rattle.rows.proofs.Indexed.{indexed}
 use Rattle.elements.proofs.next.next_element.Goals as goal
 
 pub next_by_index-requires : goal.next_by_index-requires
-next_by_index-requires c = let p : first_bad (rows_of c.args.table.now) ≡ none = sym c.check_and_index.ensures.0 ∙ ap checked_as c.in-Passes.is in indexed c.args.table.now _ p (passed-index (rows_of c.args.table.now) _ p c.check_and_index.ensures.1)
+next_by_index-requires c =
+    let p : first_bad (rows_of c.args.table.now) ≡ none = sym c.check_and_index.ensures.0 ∙ ap checked_as c.in_ok-check_and_index.was in
+    indexed c.args.table.now _ p (passed-index (rows_of c.args.table.now) _ p c.check_and_index.ensures.1)
 
-pub returns-in-Passes : goal.returns-in-Passes
+pub returns : goal.returns
 unfolding next_of
-returns-in-Passes c = let p : first_bad (rows_of c.args.table.now) ≡ none = sym c.check_and_index.ensures.0 ∙ ap checked_as c.in-Passes.is in c.next_by_index.ensures ∙ ap (λ (o : Option ℕ). next_by o (next_from (rows_of c.args.table.now) c.args.tlve_start c.args.out_of_sequence c.args.octets.now c.args.state)) (sym p)
+returns c =
+    let a = c.args in
+    let p : first_bad (rows_of a.table.now) ≡ none = sym c.check_and_index.ensures.0 ∙ ap checked_as c.in_ok-check_and_index.was in
+    c.next_by_index.ensures ∙ ap (λ (o : Option ℕ). next_by o (next_from (rows_of a.table.now) a.tlve_start a.out_of_sequence a.octets.now a.state)) (sym p)
 
-pub returns-in-BadRow : goal.returns-in-BadRow
+pub returns-in_err-check_and_index : goal.returns-in_err-check_and_index
 unfolding next_of
-returns-in-BadRow c = ap (λ (o : Option ℕ). next_by o (next_from (rows_of c.args.table.now) c.args.tlve_start c.args.out_of_sequence c.args.octets.now c.args.state)) (sym (sym c.check_and_index.ensures.0 ∙ ap checked_as c.in-BadRow.is))
+returns-in_err-check_and_index c =
+    let a = c.args in
+    let p = err_from_is_err_and c.from_residual.result c.from_residual.ensures.1 in
+    rw (p.1, p.2) (ap (λ (o : Option ℕ). next_by o (next_from (rows_of a.table.now) a.tlve_start a.out_of_sequence a.octets.now a.state)) (ap checked_as (sym c.in_err-check_and_index.was) ∙ c.check_and_index.ensures.0))

@@ -9,7 +9,7 @@ use Rattle.filling.proofs.fill.fill_elements.Given as goal
 
 abbrev pub invariant-loop-state : goal.invariant-loop-state
 invariant-loop-state l =
-    Filling (rows_by l.table l.index) (4 * length (rows_of l.table)) l.tlve_start l.option l.octets l.initial.rows l.initial.kept l.initial.order l.state l.k l.o l.rows l.kept l.order
+    Filling (rows_by l.table l.index) (4 * length (rows_of l.table)) l.tlve_start l.option l.octets l.initial.rows l.initial.kept l.initial.order l.state l.used.kept l.used.order l.rows l.kept l.order
 
 abbrev pub decreases-loop-state : goal.decreases-loop-state
 decreases-loop-state l = length l.octets - l.state.at

@@ -79,7 +79,7 @@ returns-then-element-eq2 c =
 takes : (c : After-put_raw) → c.put_raw.result ≡ length (kept_entry c.args.element.now)
 takes c =
     let a = c.args in
-    c.put_raw.ensures.0 ∙ kept-takes a.element.now (take (length a.kept.now - a.used) (drop a.used a.kept.now)) (omega arith) (omega arith) (simp (length-take, length-drop) (omega arith))
+    c.put_raw.ensures.took ∙ kept-takes a.element.now (take (length a.kept.now - a.used) (drop a.used a.kept.now)) (omega arith) (omega arith) (simp (length-take, length-drop) (omega arith))
 
 pub overflow_add-result-2 : goal.overflow_add-result-2
 overflow_add-result-2 c = omega (arith, takes (goal.at.overflow_add-result-2 c).After-put_raw)
@@ -88,4 +88,4 @@ pub returns : goal.returns
 returns c =
     let a = c.args in
     let e = a.element.now in
-    (omega (arith, takes (goal.at.returns c).After-put_raw), rw (c.put_raw.ensures.1, kept-into e (take (length a.kept.now - a.used) (drop a.used a.kept.now)) (omega arith) (omega arith) (simp (length-take, length-drop) (omega arith))) (lent-over a.used (kept_entry e) a.kept.now (omega arith)))
+    (omega (arith, takes (goal.at.returns c).After-put_raw), rw (c.put_raw.ensures.out_after, kept-into e (take (length a.kept.now - a.used) (drop a.used a.kept.now)) (omega arith) (omega arith) (simp (length-take, length-drop) (omega arith))) (lent-over a.used (kept_entry e) a.kept.now (omega arith)))

@@ -3,8 +3,8 @@
 use Rattle.findings.proofs.Walked.{unknown-taken, unknown-gone}
 use Rattle.findings.proofs.walk.judge_unknown.Goals as goal
 
-pub returns-in-Element : goal.returns-in-Element
-returns-in-Element c = let a = c.args in unknown-taken a.index.now a.kept.now a.w (rw c.in-Element.is at c.next_kept.ensures) c.kind_of_unknown.ensures
+pub returns-in-Some : goal.returns-in-Some
+returns-in-Some c = let a = c.args in unknown-taken a.index.now a.kept.now a.w (rw c.in-Some.is at c.next_kept.ensures) c.kind_of_unknown.ensures
 
-pub returns-in-Gone : goal.returns-in-Gone
-returns-in-Gone c = let a = c.args in rw c.without_element.ensures (unknown-gone a.index.now a.kept.now a.w c.requires (rw c.in-Gone.is at c.next_kept.ensures))
+pub returns-in-None : goal.returns-in-None
+returns-in-None c = let a = c.args in rw c.without_element.ensures (unknown-gone a.index.now a.kept.now a.w c.requires (rw c.in-None.is at c.next_kept.ensures))

@@ -8,10 +8,10 @@ use Rattle.definitions.specs.Rows.{place_in}
 use Rattle.rows.specs.Answers.{place_as}
 use Rattle.findings.proofs.walk.kind_of_unknown.Goals as goal
 
-pub returns-in-At : goal.returns-in-At
+pub returns-in-Some : goal.returns-in-Some
 unfolding is_none
-returns-in-At c = ap (λ (o : Option ℕ). pick (is_none o) 0 2) (ap place_as (sym c.in-At.is) ∙ c.place_of.ensures ∙ ap (place_in c.args.index.now) c.iei_of-masked.ensures)
+returns-in-Some c = ap (λ (o : Option ℕ). pick (is_none o) 0 2) (ap place_as (sym c.in-Some.is) ∙ c.place_of.ensures ∙ ap (place_in c.args.index.now) c.iei_of-masked.ensures)
 
-pub returns-in-Nowhere : goal.returns-in-Nowhere
+pub returns-in-None : goal.returns-in-None
 unfolding is_none
-returns-in-Nowhere c = ap (λ (o : Option ℕ). pick (is_none o) 0 2) (ap place_as (sym c.in-Nowhere.is) ∙ c.place_of.ensures ∙ ap (place_in c.args.index.now) c.iei_of-masked.ensures)
+returns-in-None c = ap (λ (o : Option ℕ). pick (is_none o) 0 2) (ap place_as (sym c.in-None.is) ∙ c.place_of.ensures ∙ ap (place_in c.args.index.now) c.iei_of-masked.ensures)

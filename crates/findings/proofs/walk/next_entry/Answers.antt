@@ -10,20 +10,20 @@ use Rattle.definitions.proofs.Orders.{order_front}
 use Rattle.order.specs.Order.{placed_as, front_as}
 use Rattle.findings.proofs.Walked.{stepped}
 use Rattle.findings.proofs.walk.next_entry.Goals as goal
-use Rattle.findings.proofs.walk.next_entry.Goals.{In-Is}
+use Rattle.findings.proofs.walk.next_entry.Goals.{In-Some}
 
 -- the entry at the position
-front : (c : In-Is) → order_front (drop c.args.w.order c.args.order.now) ≡ some (placed_as c.in-Is.entry)
-front c = sym (ap front_as (sym c.in-Is.is) ∙ rw to_end at c.front_at.ensures)
+front : (c : In-Some) → order_front (drop c.args.w.order c.args.order.now) ≡ some (placed_as c.in-Some.entry)
+front c = sym (ap front_as (sym c.in-Some.is) ∙ rw to_end at c.front_at.ensures)
 
 pub overflow_add-walk : goal.overflow_add-walk
-overflow_add-walk c = let s = order-split c.args.order.now c.args.w.order c.requires.1 (front (goal.at.overflow_add-walk c).In-Is) in omega (arith, s.within, c.entry_len.ensures)
+overflow_add-walk c = let s = order-split c.args.order.now c.args.w.order c.requires.1 (front (goal.at.overflow_add-walk c).In-Some) in omega (arith, s.within, c.entry_len.ensures)
 
-pub returns-in-Is : goal.returns-in-Is
-returns-in-Is c = let a = c.args in rw c.entry_len.ensures (stepped a.index.now a.order.now a.kept.now a.w c.requires.0 c.requires.1 (placed_as c.in-Is.entry) c.judge-judged.result (front (goal.at.returns-in-Is c).In-Is) c.judge-judged.ensures)
+pub returns-in-Some : goal.returns-in-Some
+returns-in-Some c = let a = c.args in rw c.entry_len.ensures (stepped a.index.now a.order.now a.kept.now a.w c.requires.0 c.requires.1 (placed_as c.in-Some.entry) c.judge-judged.result (front (goal.at.returns-in-Some c).In-Some) c.judge-judged.ensures)
 
-pub returns-in-Not : goal.returns-in-Not
-returns-in-Not c =
+pub returns-in-None : goal.returns-in-None
+returns-in-None c =
     let a = c.args in
-    let e : order_front (drop a.w.order a.order.now) ≡ none = sym (ap front_as (sym c.in-Not.is) ∙ rw to_end at c.front_at.ensures) in
+    let e : order_front (drop a.w.order a.order.now) ≡ none = sym (ap front_as (sym c.in-None.is) ∙ rw to_end at c.front_at.ensures) in
     absurd (order-never a.order.now a.w.order c.requires.1 c.requires.0.order-at e)

@@ -1,5 +1,5 @@
 -- `iei_index` enters a row a turn: the rows left, entered from here on, give the index of the whole table.
--- The measure is the rows left.
+-- The entries stay 256.
 use native.Mathlib.Omega.{arith}
 use mathlib.Core.Path.{refl, sym}
 use Rattle.indexing.proofs.Steps.{filled-one, filled-all}

@@ -1,5 +1,5 @@
 -- `enter_row` enters an IEI a turn: those left, entered from here on, give what the whole row does.
--- The measure is the IEIs left.
+-- The IEI of a turn is the one that the row lists there.
 use native.Mathlib.Omega.{arith}
 use Prim.Native.Nat.{ℕ}
 use mathlib.Core.Path.{ap, ap₂, ◌∙◌}
@@ -19,10 +19,10 @@ loop-j-preserved c =
     let a = c.args in
     let l = c.loop-j in
     let half = eqb c.code_at-half.result 0 in
-    let e = c.slot_at-iei.ensures ∙ slot-listed (row_at (rows_of a.table.now) a.place) l.j (omega arith) in
+    let e = c.slot_at.ensures ∙ slot-listed (row_at (rows_of a.table.now) a.place) l.j (omega arith) in
     entered-one _ _ _ _ _ _ _ _ _ l.invariant (omega arith)
-    (c.both-good.ensures ∙ ap (λ (b : Bool). l.good && b) (c.enter_iei.ensures.0 ∙ ap (λ (x : ℕ). good_iei half x && free l.index x) e))
-    (c.enter_iei.ensures.1 ∙ ap (λ (x : ℕ). enter c.mark_of-mark.result x l.index) e)
+    (ap (λ (b : Bool). l.good && b) (c.enter_iei-good.ensures.0 ∙ ap (λ (x : ℕ). good_iei half x && free l.index x) e))
+    (c.enter_iei-good.ensures.1 ∙ ap (λ (x : ℕ). enter c.mark_of-mark.result x l.index) e)
 
 pub shape_of-index : goal.shape_of-index
 shape_of-index c = c.loop-j.invariant.size

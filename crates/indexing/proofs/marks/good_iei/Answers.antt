@@ -1,22 +1,18 @@
 -- `good_iei` is the rule of an IEI in a row.
--- Each way out settles the tests before it.
+-- A number is a multiple of 16 where its remainder is 0.
 use native.Mathlib.Omega.{arith}
-use borrow.Author.Tests.{le-leb, lt-leb}
+use Rattle.std.proofs.lemmas.Bool.Decides.{nat_tests}
 use Rattle.definitions.specs.Rows.{good_iei}
 use Rattle.indexing.proofs.marks.good_iei.Goals as goal
 
-pub returns-then-iei-lt128 : goal.returns-then-iei-lt128
+pub returns-then-contains : goal.returns-then-contains
 unfolding good_iei
-returns-then-iei-lt128 c = let a = c.args in rw (c.if-half.true, lt-leb 128 a.iei (omega arith))
+returns-then-contains c = rw c.if-half.true (grind (arith, nat_tests))
 
-pub returns-then-iei-gt255 : goal.returns-then-iei-gt255
+pub returns-else-contains : goal.returns-else-contains
 unfolding good_iei
-returns-then-iei-gt255 c = let a = c.args in rw (c.if-half.true, le-leb 128 a.iei (omega arith), lt-leb a.iei 255 (omega arith))
+returns-else-contains c = rw c.if-half.true (grind (arith, nat_tests))
 
-pub returns-then-half : goal.returns-then-half
+pub returns-else-half : goal.returns-else-half
 unfolding good_iei
-returns-then-half c = let a = c.args in rw (c.if-half.true, le-leb 128 a.iei (omega arith), le-leb a.iei 255 (omega arith))
-
-pub returns : goal.returns
-unfolding good_iei
-returns c = rw c.if-half.false
+returns-else-half c = rw c.if-half.false

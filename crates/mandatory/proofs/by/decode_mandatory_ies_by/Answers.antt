@@ -1,68 +1,18 @@
 -- `decode_mandatory_ies_by` reads by the mandatory rows that the number names.
--- Each arm lends its constant, which passes its check; any other number has no table.
-use native.Mathlib.Omega.{arith}
-use mathlib.Core.Path.{ap}
-use Rattle.definitions.specs.Basic.{concat}
-use Rattle.definitions.specs.Tables.{mandatory_table_of, plain, mandatory1, mandatory2, mandatory3, mandatory4, mandatory5, mandatory6}
-use Rattle.real.proofs.RealLaws.{real-mandatory, mandatory-further}
+-- They pass their check; another number has no table.
+use mathlib.Core.Path.{◌≡◌, sym, ap}
+use mathlib.Core.Option.{some, none}
+use Rattle.std.specs.Prelude.{Some, None}
+use Rattle.definitions.specs.Tables.{mandatory_table_of}
+use Rattle.real.proofs.Numbers.{mandatory-named, mandatory-unnamed, mandatory-passes}
 use Rattle.mandatory.proofs.Checks.{by_number, by-none}
 use Rattle.mandatory.proofs.by.decode_mandatory_ies_by.Goals as goal
 
 pub decode_checked-requires : goal.decode_checked-requires
-unfolding mandatory_table_of
-decode_checked-requires c = real-mandatory 0
+decode_checked-requires c = mandatory-passes c.args.number _ c.in-Some.ensures
 
-pub decode_checked-requires-in-1 : goal.decode_checked-requires-in-1
-unfolding mandatory_table_of concat plain mandatory1
-decode_checked-requires-in-1 c = real-mandatory 1
+pub returns-in-Some : goal.returns-in-Some
+returns-in-Some c = let a = c.args in by_number a.number a.lenient a.part.now a.rows.now (mandatory-named a.number _ c.in-Some.ensures) c.decode_checked.ensures
 
-pub decode_checked-requires-in-2 : goal.decode_checked-requires-in-2
-unfolding mandatory_table_of concat plain mandatory2
-decode_checked-requires-in-2 c = real-mandatory 2
-
-pub decode_checked-requires-in-3 : goal.decode_checked-requires-in-3
-unfolding mandatory_table_of concat plain mandatory3
-decode_checked-requires-in-3 c = real-mandatory 3
-
-pub decode_checked-requires-in-4 : goal.decode_checked-requires-in-4
-unfolding mandatory_table_of concat plain mandatory4
-decode_checked-requires-in-4 c = real-mandatory 4
-
-pub decode_checked-requires-in-5 : goal.decode_checked-requires-in-5
-unfolding mandatory_table_of concat plain mandatory5
-decode_checked-requires-in-5 c = real-mandatory 5
-
-pub decode_checked-requires-in-6 : goal.decode_checked-requires-in-6
-unfolding mandatory_table_of concat plain mandatory6
-decode_checked-requires-in-6 c = real-mandatory 6
-
-pub returns-in-0 : goal.returns-in-0
-unfolding mandatory_table_of
-returns-in-0 c = let a = c.args in by_number a.number a.lenient a.part.now a.rows.now (ap mandatory_table_of c.in-0.is) c.decode_checked.ensures
-
-pub returns-in-1 : goal.returns-in-1
-unfolding mandatory_table_of concat plain mandatory1
-returns-in-1 c = let a = c.args in by_number a.number a.lenient a.part.now a.rows.now (ap mandatory_table_of c.in-1.is) c.decode_checked-in-1.ensures
-
-pub returns-in-2 : goal.returns-in-2
-unfolding mandatory_table_of concat plain mandatory2
-returns-in-2 c = let a = c.args in by_number a.number a.lenient a.part.now a.rows.now (ap mandatory_table_of c.in-2.is) c.decode_checked-in-2.ensures
-
-pub returns-in-3 : goal.returns-in-3
-unfolding mandatory_table_of concat plain mandatory3
-returns-in-3 c = let a = c.args in by_number a.number a.lenient a.part.now a.rows.now (ap mandatory_table_of c.in-3.is) c.decode_checked-in-3.ensures
-
-pub returns-in-4 : goal.returns-in-4
-unfolding mandatory_table_of concat plain mandatory4
-returns-in-4 c = let a = c.args in by_number a.number a.lenient a.part.now a.rows.now (ap mandatory_table_of c.in-4.is) c.decode_checked-in-4.ensures
-
-pub returns-in-5 : goal.returns-in-5
-unfolding mandatory_table_of concat plain mandatory5
-returns-in-5 c = let a = c.args in by_number a.number a.lenient a.part.now a.rows.now (ap mandatory_table_of c.in-5.is) c.decode_checked-in-5.ensures
-
-pub returns-in-6 : goal.returns-in-6
-unfolding mandatory_table_of concat plain mandatory6
-returns-in-6 c = let a = c.args in by_number a.number a.lenient a.part.now a.rows.now (ap mandatory_table_of c.in-6.is) c.decode_checked-in-6.ensures
-
-pub returns-in_default : goal.returns-in_default
-returns-in_default c = let a = c.args in rw c.unread.ensures (by-none a.number a.lenient a.part.now a.rows.now (mandatory-further a.number (omega arith) (omega arith) (omega arith) (omega arith) (omega arith) (omega arith) (omega arith)))
+pub returns-in-None : goal.returns-in-None
+returns-in-None c = let a = c.args in rw c.unread.ensures (by-none a.number a.lenient a.part.now a.rows.now (mandatory-unnamed a.number c.in-None.ensures))

@@ -1,5 +1,5 @@
 -- `any_absent` looks at a row a turn, up to one that is absent.
--- The measure is what is left to look at.
+-- Each turn is a row more.
 use native.Mathlib.Omega.{arith}
 use mathlib.Core.Path.{ap}
 use mathlib.Core.Bool.{not}

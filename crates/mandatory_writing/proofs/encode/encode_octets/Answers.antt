@@ -20,13 +20,13 @@ pub returns-then-any_absent : goal.returns-then-any_absent
 returns-then-any_absent c = wrote-absent (mandatory_rows_of c.args.table.now) (sources_of c.args.received.now c.args.set.now) c.args.rows.now c.args.output.now (ap (λ (n : ℕ). bad_rows mandatory_width (sources_of c.args.received.now c.args.set.now) c.args.rows.now n) (sym c.mandatory_rows-n.ensures) ∙ sym c.any_bad.ensures ∙ c.if-any_bad.false) (ap (λ (n : ℕ). not (is_none (absent_in c.args.rows.now n))) (sym c.mandatory_rows-n.ensures) ∙ sym c.any_absent.ensures ∙ c.if-any_absent.true)
 
 pub returns-then-output-size : goal.returns-then-output-size
-returns-then-output-size c = wrote-short (mandatory_rows_of c.args.table.now) (sources_of c.args.received.now c.args.set.now) c.args.rows.now c.args.output.now (ap (λ (n : ℕ). bad_rows mandatory_width (sources_of c.args.received.now c.args.set.now) c.args.rows.now n) (sym c.mandatory_rows-n.ensures) ∙ sym c.any_bad.ensures ∙ c.if-any_bad.false) (ap (λ (n : ℕ). not (is_none (absent_in c.args.rows.now n))) (sym c.mandatory_rows-n.ensures) ∙ sym c.any_absent.ensures ∙ c.if-any_absent.false) (ap (λ (n : ℕ). misfit_in (mandatory_rows_of c.args.table.now) (sources_of c.args.received.now c.args.set.now) c.args.rows.now 0 n) (sym c.mandatory_rows-n.ensures) ∙ sym c.first_misfit.ensures ∙ ap misfit_as c.in-Nowhere.is) (written-size (sources_of c.args.received.now c.args.set.now) c.args.rows.now 0 0 (mandatory_rows_of c.args.table.now) ∙ sym c.octets_needed-size.ensures) (omega arith)
+returns-then-output-size c = wrote-short (mandatory_rows_of c.args.table.now) (sources_of c.args.received.now c.args.set.now) c.args.rows.now c.args.output.now (ap (λ (n : ℕ). bad_rows mandatory_width (sources_of c.args.received.now c.args.set.now) c.args.rows.now n) (sym c.mandatory_rows-n.ensures) ∙ sym c.any_bad.ensures ∙ c.if-any_bad.false) (ap (λ (n : ℕ). not (is_none (absent_in c.args.rows.now n))) (sym c.mandatory_rows-n.ensures) ∙ sym c.any_absent.ensures ∙ c.if-any_absent.false) (ap (λ (n : ℕ). misfit_in (mandatory_rows_of c.args.table.now) (sources_of c.args.received.now c.args.set.now) c.args.rows.now 0 n) (sym c.mandatory_rows-n.ensures) ∙ sym c.first_misfit.ensures ∙ ap misfit_as c.in_default.is) (written-size (sources_of c.args.received.now c.args.set.now) c.args.rows.now 0 0 (mandatory_rows_of c.args.table.now) ∙ sym c.octets_needed-size.ensures) (omega arith)
 
 pub write_rows-requires : goal.write_rows-requires
-write_rows-requires c = record { short = c.requires.0; few = c.requires.1; fit = (ap (λ (n : ℕ). misfit_in (mandatory_rows_of c.args.table.now) (sources_of c.args.received.now c.args.set.now) c.args.rows.now 0 n) (sym c.mandatory_rows-n.ensures) ∙ sym c.first_misfit.ensures ∙ ap misfit_as c.in-Nowhere.is); room = omega (arith, (written-size (sources_of c.args.received.now c.args.set.now) c.args.rows.now 0 0 (mandatory_rows_of c.args.table.now) ∙ sym c.octets_needed-size.ensures)) }
+write_rows-requires c = record { short = c.requires.0; few = c.requires.1; fit = (ap (λ (n : ℕ). misfit_in (mandatory_rows_of c.args.table.now) (sources_of c.args.received.now c.args.set.now) c.args.rows.now 0 n) (sym c.mandatory_rows-n.ensures) ∙ sym c.first_misfit.ensures ∙ ap misfit_as c.in_default.is); room = omega (arith, (written-size (sources_of c.args.received.now c.args.set.now) c.args.rows.now 0 0 (mandatory_rows_of c.args.table.now) ∙ sym c.octets_needed-size.ensures)) }
 
-pub returns-in-At : goal.returns-in-At
-returns-in-At c = wrote-unfit (mandatory_rows_of c.args.table.now) (sources_of c.args.received.now c.args.set.now) c.args.rows.now c.args.output.now (ap (λ (n : ℕ). bad_rows mandatory_width (sources_of c.args.received.now c.args.set.now) c.args.rows.now n) (sym c.mandatory_rows-n.ensures) ∙ sym c.any_bad.ensures ∙ c.if-any_bad.false) (ap (λ (n : ℕ). not (is_none (absent_in c.args.rows.now n))) (sym c.mandatory_rows-n.ensures) ∙ sym c.any_absent.ensures ∙ c.if-any_absent.false) c.in-At.k (ap (λ (n : ℕ). misfit_in (mandatory_rows_of c.args.table.now) (sources_of c.args.received.now c.args.set.now) c.args.rows.now 0 n) (sym c.mandatory_rows-n.ensures) ∙ sym c.first_misfit.ensures ∙ ap misfit_as c.in-At.is)
+pub returns-in-Some : goal.returns-in-Some
+returns-in-Some c = wrote-unfit (mandatory_rows_of c.args.table.now) (sources_of c.args.received.now c.args.set.now) c.args.rows.now c.args.output.now (ap (λ (n : ℕ). bad_rows mandatory_width (sources_of c.args.received.now c.args.set.now) c.args.rows.now n) (sym c.mandatory_rows-n.ensures) ∙ sym c.any_bad.ensures ∙ c.if-any_bad.false) (ap (λ (n : ℕ). not (is_none (absent_in c.args.rows.now n))) (sym c.mandatory_rows-n.ensures) ∙ sym c.any_absent.ensures ∙ c.if-any_absent.false) c.in-Some.k (ap (λ (n : ℕ). misfit_in (mandatory_rows_of c.args.table.now) (sources_of c.args.received.now c.args.set.now) c.args.rows.now 0 n) (sym c.mandatory_rows-n.ensures) ∙ sym c.first_misfit.ensures ∙ ap misfit_as c.in-Some.is)
 
-pub returns-else-output-size : goal.returns-else-output-size
-returns-else-output-size c = wrote-done (mandatory_rows_of c.args.table.now) (sources_of c.args.received.now c.args.set.now) c.args.rows.now c.args.output.now (ap (λ (n : ℕ). bad_rows mandatory_width (sources_of c.args.received.now c.args.set.now) c.args.rows.now n) (sym c.mandatory_rows-n.ensures) ∙ sym c.any_bad.ensures ∙ c.if-any_bad.false) (ap (λ (n : ℕ). not (is_none (absent_in c.args.rows.now n))) (sym c.mandatory_rows-n.ensures) ∙ sym c.any_absent.ensures ∙ c.if-any_absent.false) (ap (λ (n : ℕ). misfit_in (mandatory_rows_of c.args.table.now) (sources_of c.args.received.now c.args.set.now) c.args.rows.now 0 n) (sym c.mandatory_rows-n.ensures) ∙ sym c.first_misfit.ensures ∙ ap misfit_as c.in-Nowhere.is) (written-size (sources_of c.args.received.now c.args.set.now) c.args.rows.now 0 0 (mandatory_rows_of c.args.table.now) ∙ sym c.octets_needed-size.ensures) (omega arith) c.write_rows.ensures
+pub returns : goal.returns
+returns c = wrote-done (mandatory_rows_of c.args.table.now) (sources_of c.args.received.now c.args.set.now) c.args.rows.now c.args.output.now (ap (λ (n : ℕ). bad_rows mandatory_width (sources_of c.args.received.now c.args.set.now) c.args.rows.now n) (sym c.mandatory_rows-n.ensures) ∙ sym c.any_bad.ensures ∙ c.if-any_bad.false) (ap (λ (n : ℕ). not (is_none (absent_in c.args.rows.now n))) (sym c.mandatory_rows-n.ensures) ∙ sym c.any_absent.ensures ∙ c.if-any_absent.false) (ap (λ (n : ℕ). misfit_in (mandatory_rows_of c.args.table.now) (sources_of c.args.received.now c.args.set.now) c.args.rows.now 0 n) (sym c.mandatory_rows-n.ensures) ∙ sym c.first_misfit.ensures ∙ ap misfit_as c.in_default.is) (written-size (sources_of c.args.received.now c.args.set.now) c.args.rows.now 0 0 (mandatory_rows_of c.args.table.now) ∙ sym c.octets_needed-size.ensures) (omega arith) c.write_rows.ensures

@@ -1,5 +1,5 @@
 -- `first_misfit` looks at a row a turn, up to one that does not fit.
--- The measure is what is left to look at.
+-- Each turn is a row more.
 use native.Mathlib.Omega.{arith}
 use mathlib.Core.Path.{ap, sym, ◌∙◌}
 use mathlib.Core.Bool.{not}

@@ -1,7 +1,5 @@
 -- `octets_needed` adds up a row a turn.
--- The measure is the rows left.
-use Prim.Native.Nat.{◌-◌}
-use lib.ListN.{length}
+-- The invariant is the law of the rows before.
 use Rattle.definitions.specs.Mandatory.{mandatory_rows_of}
 use Rattle.values.specs.Rows.{sources_of}
 use Rattle.mandatory_writing.proofs.Sizing.{Adding}
@@ -9,6 +7,3 @@ use Rattle.mandatory_writing.proofs.encode.octets_needed.Given as goal
 
 abbrev pub invariant-loop-k : goal.invariant-loop-k
 invariant-loop-k l = Adding (mandatory_rows_of l.table) (sources_of l.received l.set) l.rows l.k l.size
-
-abbrev pub decreases-loop-k : goal.decreases-loop-k
-decreases-loop-k l = length (mandatory_rows_of l.table) - l.k

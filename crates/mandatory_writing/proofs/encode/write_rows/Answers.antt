@@ -1,5 +1,5 @@
 -- `write_rows` lends the rest of the output for a row a turn.
--- The measure is the rows left.
+-- Each turn is a row more.
 use Prim.Native.Nat.{ℕ}
 use native.Mathlib.Omega.{arith}
 use mathlib.Core.Path.{◌≡◌, ap, ap₂, sym, ◌∙◌}
@@ -32,8 +32,8 @@ row_here c = row_is c.loop-k.low c.mandatory_form_at-form.ensures (ap (λ (v : V
 
 pub put_row-requires : goal.put_row-requires
 put_row-requires c = (
-  fits-is c.mandatory_form_at-form.ensures (ap (λ (v : Value). v.source) c.mandatory_row_at-row.ensures) (c.value_octets-value.ensures.result_value ∙ ap (octets_at (sources_of c.args.received.now c.args.set.now)) c.mandatory_row_at-row.ensures) ∙ fits-here (mandatory_rows_of c.args.table.now) (sources_of c.args.received.now c.args.set.now) c.args.rows.now c.requires.fit c.loop-k.k (omega (arith, c.mandatory_rows-n.ensures)),
-  rw (row_here (goal.at.put_row-requires c).After-put_row-arg-1) (simp (length-take, length-drop) (omega (arith, row_room (mandatory_rows_of c.args.table.now) (sources_of c.args.received.now c.args.set.now) c.args.rows.now c.args.output.now c.loop-k.k c.loop-k.at c.loop-k.low c.loop-k.output c.loop-k.invariant (omega (arith, c.mandatory_rows-n.ensures))))),
+  fits-is c.mandatory_form_at-form.ensures (ap (λ (v : Value). v.source) c.mandatory_row_at-row.ensures) (c.value_octets-value.ensures.result_value ∙ ap (octets_at (sources_of c.args.received.now c.args.set.now)) c.mandatory_row_at-row.ensures) ∙ fits-here (mandatory_rows_of c.args.table.now) (sources_of c.args.received.now c.args.set.now) c.args.rows.now c.requires.fit c.loop-k.k (omega (arith, c.mandatory_rows-k-end.ensures)),
+  rw (row_here (goal.at.put_row-requires c).After-put_row-arg-1) (simp (length-take, length-drop) (omega (arith, row_room (mandatory_rows_of c.args.table.now) (sources_of c.args.received.now c.args.set.now) c.args.rows.now c.args.output.now c.loop-k.k c.loop-k.at c.loop-k.low c.loop-k.output c.loop-k.invariant (omega (arith, c.mandatory_rows-k-end.ensures))))),
   c.loop-k.invariant.half,
 )
 
@@ -45,16 +45,16 @@ size-here : (c : After-encoded_size-at) → c.encoded_size-at.result ≡ length 
 size-here c = c.encoded_size-at.ensures ∙ ap₂ (λ (f : MandatoryForm) (s : List ℕ). encoded_size f (length s)) c.mandatory_form_at-form.ensures (c.value_octets-value.ensures.result_value ∙ ap (octets_at (sources_of c.args.received.now c.args.set.now)) c.mandatory_row_at-row.ensures) ∙ sym (encoded-size (mandatory_form (mandatory_row_at (mandatory_rows_of c.args.table.now) c.loop-k.k)) c.loop-k.low (value_in mandatory_width c.args.rows.now c.loop-k.k).source (octets_at (sources_of c.args.received.now c.args.set.now) (value_in mandatory_width c.args.rows.now c.loop-k.k)))
 
 pub overflow_add-at : goal.overflow_add-at
-overflow_add-at c = omega (arith, size-here (goal.at.overflow_add-at c).After-encoded_size-at, row_room (mandatory_rows_of c.args.table.now) (sources_of c.args.received.now c.args.set.now) c.args.rows.now c.args.output.now c.loop-k.k c.loop-k.at c.loop-k.low c.loop-k.output c.loop-k.invariant (omega (arith, c.mandatory_rows-n.ensures)))
+overflow_add-at c = omega (arith, size-here (goal.at.overflow_add-at c).After-encoded_size-at, row_room (mandatory_rows_of c.args.table.now) (sources_of c.args.received.now c.args.set.now) c.args.rows.now c.args.output.now c.loop-k.k c.loop-k.at c.loop-k.low c.loop-k.output c.loop-k.invariant (omega (arith, c.mandatory_rows-k-end.ensures)))
 
 pub loop-k-preserved : goal.loop-k-preserved
 loop-k-preserved c =
-    let q = row_room (mandatory_rows_of c.args.table.now) (sources_of c.args.received.now c.args.set.now) c.args.rows.now c.args.output.now c.loop-k.k c.loop-k.at c.loop-k.low c.loop-k.output c.loop-k.invariant (omega (arith, c.mandatory_rows-n.ensures)) in
+    let q = row_room (mandatory_rows_of c.args.table.now) (sources_of c.args.received.now c.args.set.now) c.args.rows.now c.args.output.now c.loop-k.k c.loop-k.at c.loop-k.low c.loop-k.output c.loop-k.invariant (omega (arith, c.mandatory_rows-k-end.ensures)) in
     rw (size-here (goal.at.loop-k-preserved c).After-encoded_size-at)
-    (laid_one (mandatory_rows_of c.args.table.now) (sources_of c.args.received.now c.args.set.now) c.args.rows.now c.args.output.now c.loop-k.k c.loop-k.at c.loop-k.low c.loop-k.output c.loop-k.invariant (omega (arith, c.mandatory_rows-n.ensures)) (rw (c.put_row.ensures, row_here (goal.at.loop-k-preserved c).After-put_row-arg-1) (lent-over c.loop-k.at (encoded_row (mandatory_form (mandatory_row_at (mandatory_rows_of c.args.table.now) c.loop-k.k)) c.loop-k.low (value_in mandatory_width c.args.rows.now c.loop-k.k).source (octets_at (sources_of c.args.received.now c.args.set.now) (value_in mandatory_width c.args.rows.now c.loop-k.k))) c.loop-k.output (omega arith))) (c.low_bits-low.ensures.0 ∙ ap (λ (s : List ℕ). low_bits (get_or s 0 0)) (c.value_octets-value.ensures.result_value ∙ ap (octets_at (sources_of c.args.received.now c.args.set.now)) c.mandatory_row_at-row.ensures)) c.low_bits-low.ensures.1)
+    (laid_one (mandatory_rows_of c.args.table.now) (sources_of c.args.received.now c.args.set.now) c.args.rows.now c.args.output.now c.loop-k.k c.loop-k.at c.loop-k.low c.loop-k.output c.loop-k.invariant (omega (arith, c.mandatory_rows-k-end.ensures)) (rw (c.put_row.ensures, row_here (goal.at.loop-k-preserved c).After-put_row-arg-1) (lent-over c.loop-k.at (encoded_row (mandatory_form (mandatory_row_at (mandatory_rows_of c.args.table.now) c.loop-k.k)) c.loop-k.low (value_in mandatory_width c.args.rows.now c.loop-k.k).source (octets_at (sources_of c.args.received.now c.args.set.now) (value_in mandatory_width c.args.rows.now c.loop-k.k))) c.loop-k.output (omega arith))) (c.low_bits-low.ensures.0 ∙ ap (λ (s : List ℕ). low_bits (get_or s 0 0)) (c.value_octets-value.ensures.result_value ∙ ap (octets_at (sources_of c.args.received.now c.args.set.now)) c.mandatory_row_at-row.ensures)) c.low_bits-low.ensures.1)
 
 pub shape_of-output : goal.shape_of-output
 shape_of-output c = c.loop-k.invariant.size
 
 pub returns : goal.returns
-returns c = laid-all (mandatory_rows_of c.args.table.now) (sources_of c.args.received.now c.args.set.now) c.args.rows.now c.args.output.now c.loop-k.k c.loop-k.at c.loop-k.low c.loop-k.output c.loop-k.invariant (omega (arith, c.mandatory_rows-n.ensures))
+returns c = laid-all (mandatory_rows_of c.args.table.now) (sources_of c.args.received.now c.args.set.now) c.args.rows.now c.args.output.now c.loop-k.k c.loop-k.at c.loop-k.low c.loop-k.output c.loop-k.invariant (omega (arith, c.mandatory_rows-k-end.ensures))

@@ -1,7 +1,5 @@
 -- `write_rows` lends the rest of the output for a row a turn.
--- The measure is the rows left.
-use Prim.Native.Nat.{◌-◌}
-use lib.ListN.{length}
+-- The invariant is the law of the rows before.
 use Rattle.definitions.specs.Mandatory.{mandatory_rows_of}
 use Rattle.values.specs.Rows.{sources_of}
 use Rattle.mandatory_writing.proofs.Laying.{Laying}
@@ -9,6 +7,3 @@ use Rattle.mandatory_writing.proofs.encode.write_rows.Given as goal
 
 abbrev pub invariant-loop-k : goal.invariant-loop-k
 invariant-loop-k l = Laying (mandatory_rows_of l.table) (sources_of l.received l.set) l.rows l.initial.output l.k l.at l.low l.output
-
-abbrev pub decreases-loop-k : goal.decreases-loop-k
-decreases-loop-k l = length (mandatory_rows_of l.table) - l.k

@@ -12,13 +12,15 @@ use Rattle.definitions.proofs.Checks.{neither}
 use Rattle.kept.specs.Kept.{used_of}
 use Rattle.measured_writing.proofs.Encoding.{moved, no_more, values-short, long-values, long-logs, no_rows, within, limited, by-content}
 use Rattle.measured_writing.proofs.encode.encode_by_index.Goals as goal
-use Rattle.measured_writing.proofs.encode.encode_by_index.Goals.{Else-logs_long}
+use Rattle.measured_writing.proofs.encode.encode_by_index.Goals.{Else-logs_long, then-too_long-via-then-too_long, then-too_long-via-else-too_long+then-logs_long}
 
 pub returns-then-too_long : goal.returns-then-too_long
-returns-then-too_long c = let a = c.args in long-values a.table.now a.index.now a.rows.now a.received.now a.set.now a.set_used a.kept.now a.kept_used a.order.now a.order_used a.output.now c.requires.0 (sym (no_more a.received.now a.set.now a.set_used) ∙ sym c.too_long.ensures ∙ c.if-too_long.true)
-
-pub returns-then-logs_long : goal.returns-then-logs_long
-returns-then-logs_long c = let a = c.args in long-logs a.table.now a.index.now a.rows.now a.received.now a.set.now a.set_used a.kept.now a.kept_used a.order.now a.order_used a.output.now c.requires.0 (sym (no_more a.received.now a.set.now a.set_used) ∙ sym c.too_long.ensures ∙ c.if-too_long.false) (sym c.logs_long.ensures ∙ c.if-logs_long.true)
+returns-then-too_long c =
+    let a = c.args in
+    elim c.then-too_long.branch [
+      | then-too_long-via-then-too_long w ↦ long-values a.table.now a.index.now a.rows.now a.received.now a.set.now a.set_used a.kept.now a.kept_used a.order.now a.order_used a.output.now c.requires.0 (sym (no_more a.received.now a.set.now a.set_used) ∙ sym c.too_long.ensures ∙ w.if-too_long.true)
+      | then-too_long-via-else-too_long+then-logs_long w ↦ long-logs a.table.now a.index.now a.rows.now a.received.now a.set.now a.set_used a.kept.now a.kept_used a.order.now a.order_used a.output.now c.requires.0 (sym (no_more a.received.now a.set.now a.set_used) ∙ sym c.too_long.ensures ∙ w.if-too_long.false) (sym w.logs_long.ensures ∙ w.if-logs_long.true)
+    ]
 
 -- nothing is too long
 short : (c : Else-logs_long) → let a = c.args in (length a.received.now ≤ most_octets) × (too_long most_octets (used_of a.set.now a.set_used) ≡ false) × (too_long most_log (used_of a.order.now a.order_used) ≡ false) × (too_long most_log (used_of a.kept.now a.kept_used) ≡ false)

@@ -12,11 +12,10 @@ use Rattle.logs.proofs.Formed.{kept-few, kept-told}
 use Rattle.seen.specs.Seen.{set_of}
 use Rattle.agreement.specs.Agreed.{Agreeing}
 use Rattle.measured_writing.specs.Added.{filled_of}
-use Rattle.measured_writing.specs.Sizes.{SurveyedBy}
-use Rattle.measured_writing.specs.declared.sizes.Surveyed.{Surveyed}
-use Rattle.measured_writing.proofs.Encoding.{needed, all_left, writable, wrong-rows, apart-rows, bad-rows, no-fit, no_output, done}
+use Rattle.measured_writing.proofs.Encoding.{needed, all_left, writable, wrong-rows, apart-rows, bad-rows, no-survey, no_output, done}
 use Rattle.measured_writing.proofs.Walked.{all-written}
 use Rattle.std.proofs.Common.{rules}
+use Rattle.std.proofs.lemmas.Result.{err_from_is_err_and}
 use Rattle.measured_writing.proofs.encode.encode_formed.Goals as goal
 
 pub returns-then-t : goal.returns-then-t
@@ -28,30 +27,27 @@ survey-requires c = (c.requires.0.sized.passes, c.requires.0.sized.received-shor
 pub overflow_add-need : goal.overflow_add-need
 overflow_add-need c = let k = kept-told c.args.kept.now c.requires.2 in omega (arith, c.requires.1.few, k.octets-are, kept-few c.args.kept.now k.kept-is, c.requires.0.order-short, c.requires.0.kept-short)
 
-pub overflow_add-need-in-Added : goal.overflow_add-need-in-Added
-overflow_add-need-in-Added c =
-    let surveyed : SurveyedBy (filled_of c.args.table.now c.args.rows.now c.args.received.now c.args.set.now) (set_of c.args.t.seen) (Surveyed.Added c.in-Added.a) = rw c.in-Added.is at c.survey.ensures in
-    let k = kept-told c.args.kept.now c.requires.2 in omega (arith, c.requires.1.few, k.octets-are, kept-few c.args.kept.now k.kept-is, c.requires.0.order-short, c.requires.0.kept-short, (surveyed).4)
+pub overflow_add-need-2 : goal.overflow_add-need-2
+overflow_add-need-2 c =
+    let k = kept-told c.args.kept.now c.requires.2 in omega (arith, c.requires.1.few, k.octets-are, kept-few c.args.kept.now k.kept-is, c.requires.0.order-short, c.requires.0.kept-short, c.in_ok-added.ensures.4)
 
 pub returns-then-output-need : goal.returns-then-output-need
 returns-then-output-need c =
     let agreed : Agreeing (rows_of c.args.table.now) c.args.rows.now c.requires.1.tells.ps [] (set_of c.args.t.seen) false = (let apart : c.args.t.apart ≡ false = search rules in rw apart at c.requires.1.agrees) in
-    let surveyed : SurveyedBy (filled_of c.args.table.now c.args.rows.now c.args.received.now c.args.set.now) (set_of c.args.t.seen) (Surveyed.Added c.in-Added.a) = rw c.in-Added.is at c.survey.ensures in
-    let a = c.args in let m = filled_of a.table.now a.rows.now a.received.now a.set.now in let k = kept-told a.kept.now c.requires.2 in no_output a.table.now a.index.now a.rows.now a.received.now a.set.now a.kept.now a.order.now a.output.now c.requires.0 c.requires.1.tells.ps c.requires.1.tells.is k.es k.kept-is (sym (wrong-rows m (set_of a.t.seen) c.requires.1.tells.ps (agreed)) ∙ (surveyed).0) (surveyed).1 _ (needed m a.order.now a.t.octets (set_of a.t.seen) (set_of c.in-Added.a.seen) c.requires.1.tells (surveyed).2 k.es k.octets-are (surveyed).3) c.if-output-need.true
+    let surveyed = c.in_ok-added.ensures in
+    let a = c.args in let m = filled_of a.table.now a.rows.now a.received.now a.set.now in let k = kept-told a.kept.now c.requires.2 in no_output a.table.now a.index.now a.rows.now a.received.now a.set.now a.kept.now a.order.now a.output.now c.requires.0 c.requires.1.tells.ps c.requires.1.tells.is k.es k.kept-is (sym (wrong-rows m (set_of a.t.seen) c.requires.1.tells.ps (agreed)) ∙ (surveyed).0) (surveyed).1 _ (needed m a.order.now a.t.octets (set_of a.t.seen) (set_of c.in_ok-added.added.seen) c.requires.1.tells (surveyed).2 k.es k.octets-are (surveyed).3) c.if-output-need.true
 
-pub returns-in-Malformed : goal.returns-in-Malformed
-returns-in-Malformed c =
+pub returns-in_err-added : goal.returns-in_err-added
+returns-in_err-added c =
+    let p = err_from_is_err_and c.from_residual.result c.from_residual.ensures.1 in
     let agreed : Agreeing (rows_of c.args.table.now) c.args.rows.now c.requires.1.tells.ps [] (set_of c.args.t.seen) false = (let apart : c.args.t.apart ≡ false = search rules in rw apart at c.requires.1.agrees) in
-    let a = c.args in let m = filled_of a.table.now a.rows.now a.received.now a.set.now in let k = kept-told a.kept.now c.requires.2 in bad-rows a.table.now a.index.now a.rows.now a.received.now a.set.now a.kept.now a.order.now a.output.now c.requires.0 c.requires.1.tells.ps c.requires.1.tells.is k.es k.kept-is (sym (wrong-rows m (set_of a.t.seen) c.requires.1.tells.ps (agreed)) ∙ rw c.in-Malformed.is at c.survey.ensures)
+    let a = c.args in
+    let k = kept-told a.kept.now c.requires.2 in
+    rw (p.1, p.2) (no-survey a.table.now a.index.now a.rows.now a.received.now a.set.now a.kept.now a.order.now a.output.now c.requires.0 c.requires.1.tells.ps c.requires.1.tells.is k.es k.kept-is (set_of a.t.seen) agreed _ c.in_err-added.ensures)
 
-pub returns-in-Unfit : goal.returns-in-Unfit
-returns-in-Unfit c =
-    let agreed : Agreeing (rows_of c.args.table.now) c.args.rows.now c.requires.1.tells.ps [] (set_of c.args.t.seen) false = (let apart : c.args.t.apart ≡ false = search rules in rw apart at c.requires.1.agrees) in
-    let a = c.args in let m = filled_of a.table.now a.rows.now a.received.now a.set.now in let k = kept-told a.kept.now c.requires.2 in let s = rw c.in-Unfit.is at c.survey.ensures in no-fit a.table.now a.index.now a.rows.now a.received.now a.set.now a.kept.now a.order.now a.output.now c.requires.0 c.requires.1.tells.ps c.requires.1.tells.is k.es k.kept-is (sym (wrong-rows m (set_of a.t.seen) c.requires.1.tells.ps (agreed)) ∙ s.0) s.1
-
-pub returns-else-output-need : goal.returns-else-output-need
-returns-else-output-need c =
-    let surveyed : SurveyedBy (filled_of c.args.table.now c.args.rows.now c.args.received.now c.args.set.now) (set_of c.args.t.seen) (Surveyed.Added c.in-Added.a) = rw c.in-Added.is at c.survey.ensures in
+pub returns : goal.returns
+returns c =
+    let surveyed = c.in_ok-added.ensures in
     let agreed : Agreeing (rows_of c.args.table.now) c.args.rows.now c.requires.1.tells.ps [] (set_of c.args.t.seen) false = (let apart : c.args.t.apart ≡ false = search rules in rw apart at c.requires.1.agrees) in
     let a = c.args in
     let l = c.requires.0 in
@@ -59,7 +55,7 @@ returns-else-output-need c =
     let m = filled_of a.table.now a.rows.now a.received.now a.set.now in
     let k = kept-told a.kept.now c.requires.2 in
     let u = surveyed in
-    let x = set_of c.in-Added.a.seen in
+    let x = set_of c.in_ok-added.added.seen in
     let n = needed m a.order.now a.t.octets (set_of a.t.seen) x g u.2 k.es k.octets-are u.3 in
     let f = all_left m a.order.now a.t.octets (set_of a.t.seen) x g u.2 k.es in
     let y = all-written a.table.now a.rows.now a.received.now a.set.now a.order.now a.kept.now x (writable a.table.now a.rows.now a.received.now a.set.now l.sized.passes u.1) g.ps g.is k.es k.kept-is l.sized.indexed (rw f (omega (arith, n, c.if-output-need.false))) c.write_walk.ensures in

@@ -32,16 +32,16 @@ returns-then-row-eq0 c =
     let good : good_value (sources_of c.args.received.now c.args.set.now) (value_at c.args.rows.now c.args.place) ≡ c.is_good.result = sym (c.is_good.ensures ∙ ap (good_value (sources_of c.args.received.now c.args.set.now)) c.row_at-row.ensures) in
     rw (good, c.if-not-is_good.false, not-present c.args.table.now c.args.rows.now c.args.received.now c.args.set.now c.args.place c.row_at-row.result c.row_at-row.ensures c.if-row-eq0.true, and-false)
 
-pub returns-then-not-is_unlike : goal.returns-then-not-is_unlike
+pub returns-then-is_unlike : goal.returns-then-is_unlike
 unfolding wrong_at apart_by
-returns-then-not-is_unlike c =
+returns-then-is_unlike c =
     let good : good_value (sources_of c.args.received.now c.args.set.now) (value_at c.args.rows.now c.args.place) ≡ c.is_good.result = sym (c.is_good.ensures ∙ ap (good_value (sources_of c.args.received.now c.args.set.now)) c.row_at-row.ensures) in
-    let other : unlike (value_at c.args.rows.now c.args.place) (first_iei (rows_of c.args.table.now) c.args.place) ≡ c.is_unlike.result = sym (c.is_unlike.ensures ∙ ap (λ (v : Value). unlike v c.numbers_at-n.result.first) c.row_at-row.ensures ∙ ap (unlike (value_at c.args.rows.now c.args.place)) (ap (λ (n : Numbers). n.first) c.numbers_at-n.ensures ∙ (whole-rows c.args.table.now (c.requires)).first c.args.place)) in
-    rw (good, c.if-not-is_good.false, other ∙ c.if-not-is_unlike.true, and-false)
+    let other : unlike (value_at c.args.rows.now c.args.place) (first_iei (rows_of c.args.table.now) c.args.place) ≡ c.is_unlike.result = sym (c.is_unlike.ensures ∙ ap (λ (v : Value). unlike v c.numbers_at.result.first) c.row_at-row.ensures ∙ ap (unlike (value_at c.args.rows.now c.args.place)) (ap (λ (n : Numbers). n.first) c.numbers_at.ensures ∙ (whole-rows c.args.table.now (c.requires)).first c.args.place)) in
+    rw (good, c.if-not-is_good.false, other ∙ c.if-is_unlike.true, ← c.has.ensures, and-true)
 
-pub returns : goal.returns
+pub returns-else-is_unlike : goal.returns-else-is_unlike
 unfolding wrong_at apart_by
-returns c =
+returns-else-is_unlike c =
     let good : good_value (sources_of c.args.received.now c.args.set.now) (value_at c.args.rows.now c.args.place) ≡ c.is_good.result = sym (c.is_good.ensures ∙ ap (good_value (sources_of c.args.received.now c.args.set.now)) c.row_at-row.ensures) in
-    let other : unlike (value_at c.args.rows.now c.args.place) (first_iei (rows_of c.args.table.now) c.args.place) ≡ c.is_unlike.result = sym (c.is_unlike.ensures ∙ ap (λ (v : Value). unlike v c.numbers_at-n.result.first) c.row_at-row.ensures ∙ ap (unlike (value_at c.args.rows.now c.args.place)) (ap (λ (n : Numbers). n.first) c.numbers_at-n.ensures ∙ (whole-rows c.args.table.now (c.requires)).first c.args.place)) in
-    rw (good, c.if-not-is_good.false, other ∙ c.if-not-is_unlike.false, ← c.seen_has.ensures, and-true)
+    let other : unlike (value_at c.args.rows.now c.args.place) (first_iei (rows_of c.args.table.now) c.args.place) ≡ c.is_unlike.result = sym (c.is_unlike.ensures ∙ ap (λ (v : Value). unlike v c.numbers_at.result.first) c.row_at-row.ensures ∙ ap (unlike (value_at c.args.rows.now c.args.place)) (ap (λ (n : Numbers). n.first) c.numbers_at.ensures ∙ (whole-rows c.args.table.now (c.requires)).first c.args.place)) in
+    rw (good, c.if-not-is_good.false, other, c.if-is_unlike.false, and-false)

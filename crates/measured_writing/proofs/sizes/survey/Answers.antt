@@ -1,52 +1,58 @@
 -- `survey` looks at a place a turn: the invariant says that all before are well formed, the first that does not fit, and which are added.
--- The measure is how many places are left.
+-- Each arm cites the step of what the look found.
+use Prim.Native.Nat.{◌<◌}
 use native.Mathlib.Omega.{arith}
+use mathlib.Core.Path.{◌≡◌}
+use lib.ListN.{length}
 use Rattle.definitions.specs.Rows.{rows_of}
 use Rattle.definitions.proofs.TableLaws.{few-places}
 use Rattle.seen.specs.Seen.{set_of}
 use Rattle.measured_writing.specs.Added.{filled_of}
-use Rattle.measured_writing.specs.Sizes.{LookedAt}
-use Rattle.measured_writing.specs.declared.sizes.Looked.{Looked}
 use Rattle.measured_writing.proofs.Surveying.{looking-begun, looking-few, looking-bad, looking-not-fit, looking-absent, looking-step, looking-unfit, looking-ended}
 use Rattle.measured_writing.proofs.sizes.survey.Goals as goal
-use Rattle.measured_writing.proofs.sizes.survey.Goals.{In-Takes}
+use Rattle.measured_writing.proofs.sizes.survey.Goals.{in-Ok-None, in-Ok-Some, in-Err-Unfit}
 
 pub loop-k-init : goal.loop-k-init
-loop-k-init c = let a = c.args in (c.places-n.ensures, rw c.places-n.ensures (looking-begun (filled_of a.table.now a.rows.now a.received.now a.set.now) (set_of a.seen)))
+loop-k-init c = let a = c.args in rw c.new.ensures (looking-begun (filled_of a.table.now a.rows.now a.received.now a.set.now) (set_of a.seen))
 
 pub look-requires : goal.look-requires
 look-requires c = c.requires
 
-pub returns-in-Bad : goal.returns-in-Bad
-returns-in-Bad c = let a = c.args in looking-bad (filled_of a.table.now a.rows.now a.received.now a.set.now) (set_of a.seen) c.loop-k.k c.loop-k.unfit c.loop-k.t c.loop-k.invariant.1 (omega (arith, c.loop-k.invariant.0, c.loop-k-test.true)) (rw c.in-Bad.is at c.look.ensures)
-
-pub overflow_add-k : goal.overflow_add-k
-overflow_add-k c = omega (arith, c.loop-k.invariant.0, few-places (rows_of c.args.table.now) c.requires.0, c.loop-k-test.true)
-
-pub loop-k-preserved-in-Unfit : goal.loop-k-preserved-in-Unfit
-loop-k-preserved-in-Unfit c = let a = c.args in (c.loop-k.invariant.0, looking-not-fit (filled_of a.table.now a.rows.now a.received.now a.set.now) (set_of a.seen) c.loop-k.k c.loop-k.unfit c.loop-k.t c.loop-k.invariant.1 (omega (arith, c.loop-k.invariant.0, c.loop-k-test.true)) (rw c.in-Unfit.is at c.look.ensures) c.lower-unfit.ensures)
-
-pub overflow_add-k-in-Absent : goal.overflow_add-k-in-Absent
-overflow_add-k-in-Absent c = omega (arith, c.loop-k.invariant.0, few-places (rows_of c.args.table.now) c.requires.0, c.loop-k-test.true)
-
-pub loop-k-preserved-in-Absent : goal.loop-k-preserved-in-Absent
-loop-k-preserved-in-Absent c = let a = c.args in (c.loop-k.invariant.0, looking-absent (filled_of a.table.now a.rows.now a.received.now a.set.now) (set_of a.seen) c.loop-k.k c.loop-k.unfit c.loop-k.t c.loop-k.invariant.1 (omega (arith, c.loop-k.invariant.0, c.loop-k-test.true)) (rw c.in-Absent.is at c.look.ensures))
-
--- what was looked at
-takes : (c : In-Takes) → let a = c.args in LookedAt (filled_of a.table.now a.rows.now a.received.now a.set.now) (set_of a.seen) c.loop-k.k (Looked.Takes c.in-Takes.len)
-takes c = rw c.in-Takes.is at c.look.ensures
+pub returns-in-Err-Bad : goal.returns-in-Err-Bad
+returns-in-Err-Bad c =
+    let a = c.args in
+    let l = c.loop-k in
+    looking-bad (filled_of a.table.now a.rows.now a.received.now a.set.now) (set_of a.seen) l.k (omega (arith, c.places-k-end.ensures)) l.unfit l.t l.invariant (rw c.in-Err-Bad.field-0-is at c.in-Err-Bad.ensures)
 
 pub with_added-t-requires : goal.with_added-t-requires
-with_added-t-requires c = let a = c.args in let f = looking-few (filled_of a.table.now a.rows.now a.received.now a.set.now) (set_of a.seen) c.loop-k.k c.loop-k.unfit c.loop-k.t c.loop-k.invariant.1 in ((takes (goal.at.with_added-t-requires c).In-Takes).4, omega (arith, f.0, f.1, few-places (rows_of a.table.now) c.requires.0))
-
-pub overflow_add-k-in-Takes : goal.overflow_add-k-in-Takes
-overflow_add-k-in-Takes c = omega (arith, c.loop-k.invariant.0, few-places (rows_of c.args.table.now) c.requires.0, c.loop-k-test.true)
+with_added-t-requires c =
+    let a = c.args in
+    let l = c.loop-k in
+    let few = looking-few (filled_of a.table.now a.rows.now a.received.now a.set.now) (set_of a.seen) l.k l.unfit l.t l.invariant in
+    ((rw c.in-Ok-Some.field-0-is at c.in-Ok-Some.ensures).4, omega (arith, few.0, few.1, few-places (rows_of a.table.now) c.requires.0))
 
 pub loop-k-preserved : goal.loop-k-preserved
-loop-k-preserved c = let a = c.args in let f = few-places (rows_of a.table.now) c.requires.0 in (c.loop-k.invariant.0, looking-step (filled_of a.table.now a.rows.now a.received.now a.set.now) (set_of a.seen) c.loop-k.k c.loop-k.unfit c.loop-k.t c.loop-k.invariant.1 (omega (arith, c.loop-k.invariant.0, c.loop-k-test.true)) (omega (arith, c.loop-k.invariant.0, c.loop-k-test.true)) (takes (goal.at.loop-k-preserved c).In-Takes) c.with_added-t.ensures)
+loop-k-preserved c =
+    let a = c.args in
+    let l = c.loop-k in
+    let m = filled_of a.table.now a.rows.now a.received.now a.set.now in
+    let s = set_of a.seen in
+    let h : l.k < length (rows_of a.table.now) = omega (arith, c.places-k-end.ensures) in
+    let low : l.k < 128 = omega (arith, h, few-places (rows_of a.table.now) c.requires.0) in
+    elim c.match-look.branch [
+      | in-Ok-None w ↦ rw (w.t-is, w.unfit-is) (looking-absent m s l.k h l.unfit l.t l.invariant (rw w.in-Ok-None.field-0-is at w.in-Ok-None.ensures))
+      | in-Ok-Some w ↦ rw (w.t-is, w.unfit-is) (looking-step m s l.k h l.unfit l.t l.invariant low (rw w.in-Ok-Some.field-0-is at w.in-Ok-Some.ensures) w.with_added-t.ensures)
+      | in-Err-Unfit w ↦ rw (w.t-is, w.unfit-is, w.or-unfit.ensures) (looking-not-fit m s l.k h l.unfit l.t l.invariant (rw w.in-Err-Unfit.field-0-is at w.in-Err-Unfit.ensures))
+    ]
 
-pub returns-then-unfit-n : goal.returns-then-unfit-n
-returns-then-unfit-n c = let a = c.args in looking-unfit (filled_of a.table.now a.rows.now a.received.now a.set.now) (set_of a.seen) c.loop-k.k c.loop-k.unfit c.loop-k.t c.loop-k.invariant.1 (omega (arith, c.loop-k.invariant.0, c.loop-k-test.false)) (omega (arith, c.loop-k.invariant.0, c.if-unfit-n.true))
+pub returns-in-Some : goal.returns-in-Some
+returns-in-Some c =
+    let a = c.args in
+    let l = c.loop-k in
+    looking-unfit (filled_of a.table.now a.rows.now a.received.now a.set.now) (set_of a.seen) l.k c.in-Some.k l.t (rw c.in-Some.is at l.invariant) (omega (arith, c.places-k-end.ensures))
 
-pub returns : goal.returns
-returns c = let a = c.args in looking-ended (filled_of a.table.now a.rows.now a.received.now a.set.now) (set_of a.seen) c.loop-k.k c.loop-k.unfit c.loop-k.t c.loop-k.invariant.1 (omega (arith, c.loop-k.invariant.0, c.loop-k-test.false)) (few-places (rows_of a.table.now) c.requires.0) (omega (arith, c.loop-k.invariant.0, c.if-unfit-n.false))
+pub returns-in-None : goal.returns-in-None
+returns-in-None c =
+    let a = c.args in
+    let l = c.loop-k in
+    looking-ended (filled_of a.table.now a.rows.now a.received.now a.set.now) (set_of a.seen) l.k l.t (rw c.in-None.is at l.invariant) (omega (arith, c.places-k-end.ensures)) (few-places (rows_of a.table.now) c.requires.0)

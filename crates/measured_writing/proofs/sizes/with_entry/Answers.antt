@@ -27,21 +27,21 @@ place_len-requires c = (c.requires.0.passes, c.requires.0.received-short, c.requ
 pub overflow_add-result : goal.overflow_add-result
 overflow_add-result c = omega (arith, c.place_len.ensures.1, c.requires.1)
 
-pub returns-in-At : goal.returns-in-At
+pub returns-in-Some : goal.returns-in-Some
 unfolding entry_apart
-returns-in-At c =
+returns-in-Some c =
     let found : place_as c.place_of.result ≡ place_of (rows_of c.args.table.now) c.in-Known.iei = c.place_of.ensures ∙ place_found c.args.table.now c.args.index.now c.in-Known.iei c.requires.0.passes c.requires.0.indexed (omega arith) in
-    let low : c.in-At.k < 128 = let l = place-low (rows_of c.args.table.now) c.in-Known.iei c.in-At.k c.requires.0.passes (sym (found) ∙ ap place_as c.in-At.is) in omega arith in
+    let low : c.in-Some.k < 128 = let l = place-low (rows_of c.args.table.now) c.in-Known.iei c.in-Some.k c.requires.0.passes (sym (found) ∙ ap place_as c.in-Some.is) in omega arith in
     let a = c.args in
-    let e = sym (found) ∙ ap place_as c.in-At.is in
-    rw c.in-Known.is (tallied-known (filled_of a.table.now a.rows.now a.received.now a.set.now) (tally_of a.t) c.in-Known.iei c.in-At.k e (low) c.place_len.ensures.0 c.place_len.ensures.1 c.seen_with.ensures, rw e c.apart_with.ensures)
+    let e = sym (found) ∙ ap place_as c.in-Some.is in
+    rw c.in-Known.is (tallied-known (filled_of a.table.now a.rows.now a.received.now a.set.now) (tally_of a.t) c.in-Known.iei c.in-Some.k e (low) c.place_len.ensures.0 c.place_len.ensures.1 c.with.ensures, rw e c.apart_with.ensures)
 
-pub returns-in-Nowhere : goal.returns-in-Nowhere
+pub returns-in-None : goal.returns-in-None
 unfolding entry_apart
-returns-in-Nowhere c =
+returns-in-None c =
     let found : place_as c.place_of.result ≡ place_of (rows_of c.args.table.now) c.in-Known.iei = c.place_of.ensures ∙ place_found c.args.table.now c.args.index.now c.in-Known.iei c.requires.0.passes c.requires.0.indexed (omega arith) in
     let a = c.args in
-    let e = sym (found) ∙ ap place_as c.in-Nowhere.is in
+    let e = sym (found) ∙ ap place_as c.in-None.is in
     rw c.in-Known.is (tallied-nowhere (filled_of a.table.now a.rows.now a.received.now a.set.now) (tally_of a.t) c.in-Known.iei e, rw e)
 
 pub returns-in_default : goal.returns-in_default

@@ -1,16 +1,34 @@
--- `Cursor::get_u32` equals the number of four octets at the cursor.
--- Each way out settles whether they are there; `big16` and `big32` put them together.
-use Prim.Native.Nat.{◌+◌, ◌≤◌, ◌<◌}
+-- `Cursor::get_u32` equals the number at the cursor.
+-- What `advance` gave says whether its octets are there.
+use Prim.Native.Nat.{ℕ, ◌+◌, ◌*◌}
+use mathlib.Core.Path.{◌≡◌, sym, ◌∙◌}
 use native.Mathlib.Omega.{arith}
-use lib.ListN.{length}
+use lib.ListN.{get_or}
 use Rattle.definitions.proofs.Octets.{number-four, number_short}
+use Rattle.octets.proofs.Laws.{moved-is, moved-none}
 use Rattle.octets.proofs.Cursor.get_u32.Goals as goal
 
-pub returns-then-at-s : goal.returns-then-at-s
-returns-then-at-s c = let a = c.args in let h : length a.s.now < a.self.at + 4 = omega arith in rw number_short
+pub returns-in_err-next : goal.returns-in_err-next
+returns-in_err-next c = let a = c.args in let h = moved-none 4 a.self.at a.s.now (sym c.in_err-next.was ∙ c.advance.ensures) in rw number_short c.from_residual.ensures
 
-pub returns-then-s-at-lt4 : goal.returns-then-s-at-lt4
-returns-then-s-at-lt4 c = let a = c.args in let h : length a.s.now < a.self.at + 4 = omega arith in rw number_short
+pub bounds-s-at : goal.bounds-s-at
+bounds-s-at c = let a = c.args in let t = moved-is 4 a.self.at a.s.now c.in_ok-next.next (sym c.in_ok-next.was ∙ c.advance.ensures) in omega arith
+
+pub bounds-s-at-2 : goal.bounds-s-at-2
+bounds-s-at-2 c = let a = c.args in let t = moved-is 4 a.self.at a.s.now c.in_ok-next.next (sym c.in_ok-next.was ∙ c.advance.ensures) in omega arith
+
+pub bounds-s-at-3 : goal.bounds-s-at-3
+bounds-s-at-3 c = let a = c.args in let t = moved-is 4 a.self.at a.s.now c.in_ok-next.next (sym c.in_ok-next.was ∙ c.advance.ensures) in omega arith
+
+pub bounds-s-at-4 : goal.bounds-s-at-4
+bounds-s-at-4 c = let a = c.args in let t = moved-is 4 a.self.at a.s.now c.in_ok-next.next (sym c.in_ok-next.was ∙ c.advance.ensures) in omega arith
 
 pub returns : goal.returns
-returns c = let a = c.args in let h : a.self.at + 4 ≤ length a.s.now = omega arith in rw (number-four, c.big32.ensures, c.big16-low.ensures, c.big16-high.ensures)
+returns c =
+    let a = c.args in
+    let t = moved-is 4 a.self.at a.s.now c.in_ok-next.next (sym c.in_ok-next.was ∙ c.advance.ensures) in
+    let h = t.0 in
+    let f = c.from_be_bytes.ensures in
+    let x : ℕ → ℕ = λ k. get_or a.s.now (a.self.at + k) 0 in
+    let v : c.from_be_bytes.result ≡ (get_or a.s.now a.self.at 0 * 256 + x 1) * 65536 + (x 2 * 256 + x 3) = omega arith in
+    rw (number-four, t.1, v)

@@ -3,16 +3,6 @@
 use native.Mathlib.Omega.{arith}
 use Rattle.definitions.proofs.TableLaws.{iei-count, count-is}
 use Rattle.rows.proofs.columns.iei_count.Goals as goal
-use Rattle.rows.proofs.columns.iei_count.Goals.{then-left-lt5, else-left-lt5}
-
-pub returns-then-place-table : goal.returns-then-place-table
-returns-then-place-table c = let a = c.args in omega (arith, iei-count a.table.now a.place, count-is a.table.now a.place)
-
-pub returns-then-count-most : goal.returns-then-count-most
-returns-then-count-most c = let a = c.args in elim c.if-left-lt5.branch [ then-left-lt5 w ↦ omega (arith, iei-count a.table.now a.place, count-is a.table.now a.place) | else-left-lt5 w ↦ omega (arith, iei-count a.table.now a.place, count-is a.table.now a.place) ]
-
-pub returns-then-most-eq0 : goal.returns-then-most-eq0
-returns-then-most-eq0 c = let a = c.args in elim c.if-left-lt5.branch [ then-left-lt5 w ↦ omega (arith, iei-count a.table.now a.place, count-is a.table.now a.place) | else-left-lt5 w ↦ omega (arith, iei-count a.table.now a.place, count-is a.table.now a.place) ]
 
 pub returns : goal.returns
-returns c = let a = c.args in elim c.if-left-lt5.branch [ then-left-lt5 w ↦ omega (arith, iei-count a.table.now a.place, count-is a.table.now a.place) | else-left-lt5 w ↦ omega (arith, iei-count a.table.now a.place, count-is a.table.now a.place) ]
+returns c = let a = c.args in omega (arith, iei-count a.table.now a.place, count-is a.table.now a.place)

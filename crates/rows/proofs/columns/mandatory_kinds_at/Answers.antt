@@ -6,4 +6,4 @@ use Rattle.definitions.proofs.TableLaws.{mandatory-at}
 use Rattle.rows.proofs.columns.mandatory_kinds_at.Goals as goal
 
 pub returns : goal.returns
-returns c = let a = c.args in c.plain_at.ensures ∙ ap (λ (r : MandatoryRow). r.kinds) (sym (mandatory-at a.table.now a.row))
+returns c = let a = c.args in c.number_at.ensures ∙ ap (λ (r : MandatoryRow). r.kinds) (sym (mandatory-at a.table.now a.row))

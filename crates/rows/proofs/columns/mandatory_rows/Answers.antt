@@ -4,8 +4,5 @@ use native.Mathlib.Omega.{arith}
 use Rattle.definitions.proofs.TableLaws.{mandatory-count}
 use Rattle.rows.proofs.columns.mandatory_rows.Goals as goal
 
-pub returns-then-table-eq0 : goal.returns-then-table-eq0
-returns-then-table-eq0 c = omega (arith, mandatory-count c.args.table.now)
-
 pub returns : goal.returns
 returns c = omega (arith, mandatory-count c.args.table.now)

@@ -4,8 +4,5 @@ use native.Mathlib.Omega.{arith}
 use Rattle.definitions.proofs.TableLaws.{row_count}
 use Rattle.rows.proofs.columns.places.Goals as goal
 
-pub returns-then-table-eq0 : goal.returns-then-table-eq0
-returns-then-table-eq0 c = omega (arith, row_count c.args.table.now)
-
 pub returns : goal.returns
 returns c = omega (arith, row_count c.args.table.now)

@@ -7,4 +7,4 @@ use Rattle.rows.proofs.columns.size_at.Goals as goal
 
 pub returns : goal.returns
 unfolding row_of
-returns c = let a = c.args in c.wide.ensures ∙ c.number_at.ensures ∙ ap (λ (r : Row). r.size) (sym (row_at_lem a.table.now a.place))
+returns c = let a = c.args in c.number_at.ensures ∙ ap (λ (r : Row). r.size) (sym (row_at_lem a.table.now a.place))

@@ -1,5 +1,4 @@
 -- `any_bad` looks at a row a turn: the invariant says that none before was bad, so that the rest decides.
--- The measure is what is left to look at.
 use Prim.Native.Nat.{ℕ, ◌-◌}
 use native.Mathlib.Omega.{arith}
 use mathlib.Core.Path.{◌≡◌, ap, sym, ◌∙◌}
@@ -15,19 +14,19 @@ minus-zero : (n : ℕ) → n - 0 ≡ n
 minus-zero n = omega arith
 
 pub loop-k-init : goal.loop-k-init
-loop-k-init c = (omega arith, ap (λ (m : ℕ). is_none (first_from (λ j. not (good_value (sources_of c.args.received.now c.args.set.now) (value_in (width_of c.args.with_iei) c.args.rows.now j))) 0 m)) (minus-zero c.args.n))
+loop-k-init c = ap (λ (m : ℕ). is_none (first_from (λ j. not (good_value (sources_of c.args.received.now c.args.set.now) (value_in (width_of c.args.with_iei) c.args.rows.now j))) 0 m)) (minus-zero c.args.n)
 
 pub returns-then-not-is_good : goal.returns-then-not-is_good
 unfolding bad_rows is_none
 returns-then-not-is_good c =
     let good-here : c.is_good.result ≡ good_value (sources_of c.args.received.now c.args.set.now) (value_in (width_of c.args.with_iei) c.args.rows.now c.loop-k.k) = c.is_good.ensures ∙ ap (good_value (sources_of c.args.received.now c.args.set.now)) c.row_of.ensures in
-    sym (ap not (sym c.loop-k.invariant.1) ∙ ap (λ (o : Option ℕ). not (is_none o)) (first-here (λ j. not (good_value (sources_of c.args.received.now c.args.set.now) (value_in (width_of c.args.with_iei) c.args.rows.now j))) c.args.n c.loop-k.k (omega arith) (ap not (sym good-here ∙ c.if-not-is_good.true))))
+    sym (ap not (sym c.loop-k.invariant) ∙ ap (λ (o : Option ℕ). not (is_none o)) (first-here (λ j. not (good_value (sources_of c.args.received.now c.args.set.now) (value_in (width_of c.args.with_iei) c.args.rows.now j))) c.args.n c.loop-k.k (omega arith) (ap not (sym good-here ∙ c.if-not-is_good.true))))
 
 pub loop-k-preserved : goal.loop-k-preserved
 loop-k-preserved c =
     let good-here : c.is_good.result ≡ good_value (sources_of c.args.received.now c.args.set.now) (value_in (width_of c.args.with_iei) c.args.rows.now c.loop-k.k) = c.is_good.ensures ∙ ap (good_value (sources_of c.args.received.now c.args.set.now)) c.row_of.ensures in
-    (omega arith, ap is_none (first-further (λ j. not (good_value (sources_of c.args.received.now c.args.set.now) (value_in (width_of c.args.with_iei) c.args.rows.now j))) c.args.n c.loop-k.k (omega arith) (ap not (sym good-here ∙ c.if-not-is_good.false))) ∙ c.loop-k.invariant.1)
+    ap is_none (first-further (λ j. not (good_value (sources_of c.args.received.now c.args.set.now) (value_in (width_of c.args.with_iei) c.args.rows.now j))) c.args.n c.loop-k.k (omega arith) (ap not (sym good-here ∙ c.if-not-is_good.false))) ∙ c.loop-k.invariant
 
 pub returns : goal.returns
 unfolding bad_rows is_none
-returns c = sym (ap not (sym c.loop-k.invariant.1 ∙ ap is_none (first-over (λ j. not (good_value (sources_of c.args.received.now c.args.set.now) (value_in (width_of c.args.with_iei) c.args.rows.now j))) c.args.n c.loop-k.k (omega arith))))
+returns c = sym (ap not (sym c.loop-k.invariant ∙ ap is_none (first-over (λ j. not (good_value (sources_of c.args.received.now c.args.set.now) (value_in (width_of c.args.with_iei) c.args.rows.now j))) c.args.n c.loop-k.k (omega arith))))

@@ -1,6 +1,5 @@
 -- `any_bad` looks at a row a turn: the invariant says that none before was bad, so that the rest decides.
--- The measure is what is left to look at.
-use Prim.Native.Nat.{◌≤◌, ◌-◌}
+use Prim.Native.Nat.{◌-◌}
 use mathlib.Core.Path.{◌≡◌}
 use mathlib.Core.Bool.{not}
 use Rattle.definitions.specs.Basic.{is_none}
@@ -10,7 +9,4 @@ use Rattle.values.proofs.row.any_bad.Given as goal
 
 abbrev pub invariant-loop-k : goal.invariant-loop-k
 invariant-loop-k l =
-    (l.k ≤ l.n) × (is_none (first_from (λ j. not (good_value (sources_of l.received l.set) (value_in (width_of l.with_iei) l.rows j))) l.k (l.n - l.k)) ≡ is_none (first_from (λ j. not (good_value (sources_of l.received l.set) (value_in (width_of l.with_iei) l.rows j))) 0 l.n))
-
-abbrev pub decreases-loop-k : goal.decreases-loop-k
-decreases-loop-k l = l.n - l.k
+    is_none (first_from (λ j. not (good_value (sources_of l.received l.set) (value_in (width_of l.with_iei) l.rows j))) l.k (l.n - l.k)) ≡ is_none (first_from (λ j. not (good_value (sources_of l.received l.set) (value_in (width_of l.with_iei) l.rows j))) 0 l.n)

@@ -13,9 +13,9 @@ pub returns-then-source-eq1 : goal.returns-then-source-eq1
 unfolding fits
 returns-then-source-eq1 c = sym (ap (λ (f : Form). fits (form_as f) c.args.source c.args.octets.now) c.in-Half.is ∙ rw (eq-eqb (length c.args.octets.now) 1 (omega arith), eq-eqb c.args.source 1 (omega arith)))
 
-pub returns-then-octets-eq1 : goal.returns-then-octets-eq1
+pub returns-else-source-eq1 : goal.returns-else-source-eq1
 unfolding fits
-returns-then-octets-eq1 c = sym (ap (λ (f : Form). fits (form_as f) c.args.source c.args.octets.now) c.in-Half.is ∙ rw (eq-eqb (length c.args.octets.now) 1 (omega arith), ne_eqb c.args.source 1 c.if-source-eq1.false))
+returns-else-source-eq1 c = sym (ap (λ (f : Form). fits (form_as f) c.args.source c.args.octets.now) c.in-Half.is ∙ rw (eq-eqb (length c.args.octets.now) 1 (omega arith), ne_eqb c.args.source 1 c.if-source-eq1.false))
 
 pub returns-else-octets-eq1 : goal.returns-else-octets-eq1
 unfolding fits

@@ -2,7 +2,7 @@
 -- Each way out names the source; of a present value the sources have one.
 use native.Mathlib.Omega.{arith}
 use mathlib.Core.Path.{sym}
-use borrow.Author.Tests.{eq-eqb, ne_eqb}
+use Rattle.std.proofs.Common.{rules}
 use Rattle.values.specs.Rows.{sources_of, value_of}
 use Rattle.values.proofs.Showing.{good-over, good-absent, good-present}
 use Rattle.values.proofs.row.is_good.Goals as goal
@@ -11,13 +11,10 @@ pub returns-then-row-gt2 : goal.returns-then-row-gt2
 returns-then-row-gt2 c = let a = c.args in sym (good-over (sources_of a.received.now a.set.now) (value_of a.row) (omega arith))
 
 pub returns-then-row-eq0-3 : goal.returns-then-row-eq0-3
-returns-then-row-eq0-3 c = let a = c.args in rw (good-absent (sources_of a.received.now a.set.now) (value_of a.row) (omega arith), eq-eqb a.row.start 0 (omega arith), eq-eqb a.row.len 0 (omega arith))
+returns-then-row-eq0-3 c = let a = c.args in rw (good-absent (sources_of a.received.now a.set.now) (value_of a.row) (omega arith)) (search rules)
 
 pub returns-else-row-eq0-3 : goal.returns-else-row-eq0-3
-returns-else-row-eq0-3 c = let a = c.args in rw (good-absent (sources_of a.received.now a.set.now) (value_of a.row) (omega arith), eq-eqb a.row.start 0 (omega arith), ne_eqb a.row.len 0 c.if-row-eq0-3.false)
-
-pub returns-else-row-eq0-2 : goal.returns-else-row-eq0-2
-returns-else-row-eq0-2 c = let a = c.args in rw (good-absent (sources_of a.received.now a.set.now) (value_of a.row) (omega arith), ne_eqb a.row.start 0 c.if-row-eq0-2.false)
+returns-else-row-eq0-3 c = let a = c.args in rw (good-absent (sources_of a.received.now a.set.now) (value_of a.row) (omega arith)) (search rules)
 
 pub returns : goal.returns
-returns c = let a = c.args in rw (c.wide.ensures.0, c.wide-2.ensures.0, c.limit_of.ensures) (sym (good-present (sources_of a.received.now a.set.now) (value_of a.row) (let z = c.if-row-eq0.false in omega arith) (omega (arith, c.if-row-gt2.false))))
+returns c = let a = c.args in rw c.limit_of.ensures (sym (good-present (sources_of a.received.now a.set.now) (value_of a.row) (let z = c.if-row-eq0.false in omega arith) (omega (arith, c.if-row-gt2.false))))

@@ -2,7 +2,7 @@
 -- Of a present value it is a part of what its source names, which stands at its start.
 use Prim.Native.Nat.{ℕ, ◌+◌, ◌-◌}
 use native.Mathlib.Omega.{arith}
-use mathlib.Core.Path.{◌≡◌, ap, sym, ◌∙◌}
+use mathlib.Core.Path.{◌≡◌, refl, ap, sym, ◌∙◌}
 use lib.ListN.{take, drop}
 use Rattle.values.specs.Rows.{sources_of, value_of}
 use Rattle.values.proofs.Showing.{octets-absent, octets-named}
@@ -16,17 +16,16 @@ returns-then-source-eq0 c =
 
 pub returns-then-end-from : goal.returns-then-end-from
 returns-then-end-from c =
-    let q = (let a = c.args in
+    let a = c.args in
     let from = c.source_of-from.result in
-    let s = c.wide-start.result in
-    let l = c.wide-len.result in
+    let s = a.row.start in
+    let l = a.row.len in
     let e : s + l - s ≡ l = omega arith in
-    let q : take l (drop s from.now) ≡ take a.row.len (drop a.row.start from.now) = rw (c.wide-start.ensures.0, c.wide-len.ensures.0) in
-    octets-named a.received a.set from (record { ref_ptr = (from.ref_ptr.0, s + from.ref_ptr.1); now = take (s + l - s) (drop s from.now) }) (value_of a.row)
-    (let z = c.if-source-eq0.false in omega arith) c.source_of-from.ensures (ap (λ (n : ℕ). take n (drop s from.now)) e ∙ q) (λ h. rw c.wide-start.ensures.0)) in record { result_value = q.0; placed_as = q.1 }
+    let q = octets-named a.received a.set from (record { ref_ptr = (from.ref_ptr.0, s + from.ref_ptr.1); now = take (s + l - s) (drop s from.now) }) (value_of a.row)
+    (let z = c.if-source-eq0.false in omega arith) c.source_of-from.ensures (ap (λ (n : ℕ). take n (drop s from.now)) e) (λ h. refl) in record { result_value = q.0; placed_as = q.1 }
 
 pub returns : goal.returns
 returns c =
-    let q = (let a = c.args in
-    octets-named a.received a.set c.source_of-from.result c.part-2.result (value_of a.row) (let z = c.if-source-eq0.false in omega arith) c.source_of-from.ensures
-    (rw (c.wide-start.ensures.0, c.wide-len.ensures.0) at c.part-2.ensures.result_value) (rw c.wide-start.ensures.0 at c.part-2.ensures.stands_at)) in record { result_value = q.0; placed_as = q.1 }
+    let a = c.args in
+    let q = octets-named a.received a.set c.source_of-from.result c.part-2.result (value_of a.row) (let z = c.if-source-eq0.false in omega arith) c.source_of-from.ensures
+    c.part-2.ensures.result_value c.part-2.ensures.stands_at in record { result_value = q.0; placed_as = q.1 }

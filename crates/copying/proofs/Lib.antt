@@ -1,2 +1,0 @@
--- Laws of octets held in a local array and put out of it.
-mod Moves

@@ -1,2 +1,0 @@
--- Laws that those who load a table cite.
-pub mod Loading

@@ -1,2 +1,0 @@
--- What the answers of this crate are by the definitions.
-pub mod Loads

@@ -1,2 +1,0 @@
--- That a numbered table says of a place what its row does.
-pub mod Shapes

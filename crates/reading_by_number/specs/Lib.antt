@@ -1,1 +1,0 @@
--- No definitions of this crate's own.

@@ -1,3 +1,0 @@
--- What the answers of this crate are by the definitions.
-pub mod Said
-pub mod Shapes
