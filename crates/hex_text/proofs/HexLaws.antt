@@ -4,7 +4,7 @@ use Prim.Native.Nat.{ℕ, suc, ◌+◌, ◌*◌, ◌-◌, ◌≤◌, ◌<◌}
 use native.Mathlib.Omega.{arith}
 use mathlib.Core.Path.{◌≡◌, refl, ap, sym, subst, ◌∙◌}
 use mathlib.Core.List.{List, [], ◌∷◌, append_assoc}
-use mathlib.Core.Bool.{true, false}
+use mathlib.Core.Bool.{Bool, true, false}
 use lib.ListN.{length, get_or, take, drop, set, length-append, drop_of_length-le}
 use lib.Seq.{drop-cons, drop-drop, sets-eq}
 use lib.Dec.{eqb}
@@ -73,6 +73,41 @@ over-text : (room at : ℕ) (half : Option ℕ) → ended (end_of at half) ≡ r
 unfolding rest_of hex_from
 over-text room at None = refl
 over-text room at (Some a) = refl
+
+-- ---- an octet of text at a time, and two
+
+-- a text decoded a step at a time, behind a digit that waits or behind none
+unfoldable pub stepped_from : ℕ → ℕ → Option ℕ → List ℕ → Hex
+stepped_from room at half [] = ended (end_of at half)
+stepped_from room at half (x ∷ xs) =
+    pick (eqb room 0) well (elim (step_of at half x) [
+      | Ok (Step.Waits h) ↦ stepped_from room (suc at) h xs
+      | Ok (Step.Octet n) ↦ behind n (stepped_from (room - 1) (suc at) None xs)
+      | Err e ↦ wrong e
+    ])
+
+stepped-rest : (room at : ℕ) (half : Option ℕ) (text : List ℕ) → stepped_from room at half text ≡ rest_of room at half text
+unfolding stepped_from
+stepped-rest room at half [] = over-text room at half
+stepped-rest room at half (x ∷ xs) = by (eqb room 0) refl (step_of at half x) refl (λ h. stepped-rest room (suc at) h xs) (stepped-rest (room - 1) (suc at) None xs)
+  where
+    by : (b : Bool) → eqb room 0 ≡ b → (r : Result Step HexError) → step_of at half x ≡ r
+        → ((h : Option ℕ) → stepped_from room (suc at) h xs ≡ rest_of room (suc at) h xs) → stepped_from (room - 1) (suc at) None xs ≡ rest_of (room - 1) (suc at) None xs
+        → pick b well (elim r [
+          | Ok (Step.Waits h) ↦ stepped_from room (suc at) h xs
+          | Ok (Step.Octet n) ↦ behind n (stepped_from (room - 1) (suc at) None xs)
+          | Err e ↦ wrong e
+        ])
+        ≡ rest_of room at half (x ∷ xs)
+    by true q r e f g = full room at x half xs q
+    by false q (Ok (Step.Waits h)) e f g = f h ∙ (rw e at (step room at x half xs q))
+    by false q (Ok (Step.Octet n)) e f g = ap (behind n) g ∙ (rw e at (step room at x half xs q))
+    by false q (Err w) e f g = rw e at (step room at x half xs q)
+
+-- a text that is decoded a step at a time is the text by pairs
+pub by-pairs : (room at : ℕ) (text : List ℕ) → stepped_from room at None text ≡ hex_from room at text
+unfolding rest_of
+by-pairs room at text = stepped-rest room at None text
 
 -- ---- a buffer with what is left of a text still to come
 

@@ -2,7 +2,7 @@
 // and how many of its octets are used.
 #![tactic(auto)]
 
-ghost use Rattle.std.specs.Prelude.{◌≡◌, ◌∷◌, true, ◌+◌, ◌*◌, ◌%◌, ◌≤◌, ◌<◌, ◌↔◌, length, take, drop, Ok, IsOk, IfOk, IfErr};
+ghost use Rattle.std.specs.Prelude.{◌≡◌, ◌∷◌, true, ◌+◌, ◌*◌, ◌%◌, ◌≤◌, ◌<◌, ◌↔◌, length, get_or, take, drop, Ok, IsOk, IfOk, IfErr, IsTrue};
 ghost use Rattle.definitions.specs.Basic.{over, too_long, most_log};
 ghost use Rattle.definitions.specs.Logs.{leb128, kept_entry, count_at, allowed, kept_list, kept_push, kept_count, kept_get, kept_clear};
 ghost use Rattle.definitions.proofs.Logs.{entry_of};
@@ -106,8 +106,9 @@ pub fn entry_at(s: &[u8]) -> Option<Count>
 
 // Whether the entry at the front has n octets, behind a count of one octet. Compared as octets, so that the compiled code goes on with n
 // and not with the count that it would wait for.
-fn is_like(s: &[u8], n: usize) -> bool
-    ensures { result ≡ true → entry_of s.now (count_at s.now) ≡ count_from n 1 }
+pub fn is_like(s: &[u8], n: usize) -> bool
+    ensures told { IsTrue result ↔ ((1 ≤ n) × (n ≤ 127) × (n < length s.now) × (get_or s.now 0 0 ≡ n)) }
+    ensures like { result ≡ true → entry_of s.now (count_at s.now) ≡ count_from n 1 }
 {
     if n < 1 || n > 127 || n >= s.len() {
         return false;

@@ -3,7 +3,7 @@
 use Prim.Native.Nat.{ℕ, zero, suc, ◌≤◌, ◌<◌}
 use native.Mathlib.Omega.{arith}
 use mathlib.Core.Option.{none}
-use Rattle.definitions.proofs.Orders.{order_front, front-alone, front-over}
+use Rattle.definitions.proofs.Orders.{order_front, front-empty, front-alone, front-over}
 use mathlib.Core.Path.{◌≡◌, refl, ap}
 use mathlib.Core.List.{List, [], ◌∷◌}
 use lib.ListN.{length, get_or}
@@ -34,3 +34,13 @@ front-not s h l g = by (get_or s 0 0) refl
     by : (x : ℕ) → get_or s 0 0 ≡ x → order_front s ≡ none
     by zero e = front-alone s (l e) e
     by (suc n) e = front-over s h (g (omega arith))
+
+-- an octet that is not 0 stands somewhere
+pub stands : (s : List ℕ) → 1 ≤ get_or s 0 0 → 0 < length s
+stands [] h = absurd (omega arith)
+stands (x ∷ s) h = omega arith
+
+-- no entry is a 00 alone, or nothing
+pub front-short : (s : List ℕ) → length s < 2 → get_or s 0 0 ≡ 0 → order_front s ≡ none
+front-short [] h e = front-empty [] refl
+front-short (x ∷ s) h e = front-alone (x ∷ s) (omega arith) e

@@ -5,7 +5,7 @@
 
 ghost use Rattle.std.specs.Prelude.{◌≡◌, ◌≤◌, ◌<◌, length, get_or, drop, [], ◌∷◌};
 ghost use Rattle.definitions.specs.Logs.{order_entry, order_list, order_push, order_get};
-ghost use Rattle.definitions.proofs.Orders.{order_front};
+ghost use Rattle.definitions.proofs.Orders.{order_front, aside_by};
 ghost use Rattle.kept.specs.Kept.{pushed_as, used_of, if_room};
 ghost use Rattle.order.specs.Order.{placed_as, front_as, Stepped, told_by, tell, start_walk, entry_as};
 
@@ -87,16 +87,27 @@ pub fn put_placed(out: &mut [u8], entry: Placed)
     }
 }
 
-// The entry at the front of a log.
+// The entry of an octet from 1 to 4.
+fn aside_entry(x: u8) -> Placed
+    requires { (1 ≤ x) × (x ≤ 4) }
+    ensures { placed_as result ≡ aside_by x }
+{
+    match x {
+        1 => Placed::Unknown,
+        2 => Placed::Ignored(IgnoredIeReason::Malformed),
+        3 => Placed::Ignored(IgnoredIeReason::Repeated),
+        _ => Placed::Ignored(IgnoredIeReason::OutOfSequence),
+    }
+}
+
+// The entry at the front of a log. Whether its octet is 0 is a test of its own, by which the compiled code goes on to the next entry: of a
+// match over all octets it would wait for the entry to know where that begins.
 pub fn front_at(s: &[u8]) -> Option<Placed>
     ensures { front_as result ≡ order_front s.now }
 {
     match *s {
         [0, iei, ..] => Some(Placed::Known(iei)),
-        [1, ..] => Some(Placed::Unknown),
-        [2, ..] => Some(Placed::Ignored(IgnoredIeReason::Malformed)),
-        [3, ..] => Some(Placed::Ignored(IgnoredIeReason::Repeated)),
-        [4, ..] => Some(Placed::Ignored(IgnoredIeReason::OutOfSequence)),
+        [x, ..] if 0 < x && x <= 4 => Some(aside_entry(x)),
         _ => None,
     }
 }

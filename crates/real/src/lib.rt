@@ -19,7 +19,7 @@ use rows::index::place_of;
 static NO_ROWS: [u32; 0] = [];
 
 // Table P: five places.
-static TABLE_P: [u32; 50] = [
+pub static TABLE_P: [u32; 50] = [
     // place 0
     1, 0xc0, 0, 0, 0, 0, 0, 0, 1, 7,
     // place 1
@@ -33,7 +33,7 @@ static TABLE_P: [u32; 50] = [
 ];
 
 // Registration request, optional rows.
-static REGISTRATION_REQUEST: [u32; 320] = [
+pub static REGISTRATION_REQUEST: [u32; 320] = [
     // non-current native nas key set identifier, 9.11.3.32
     1, 0xc0, 0, 0, 0, 0, 0, 1, 1, 65_535,
     // 5gmm capability, 9.11.3.1
@@ -101,7 +101,7 @@ static REGISTRATION_REQUEST: [u32; 320] = [
 ];
 
 // Registration request, mandatory rows.
-static REGISTRATION_REQUEST_MANDATORY: [u32; 12] = [
+pub static REGISTRATION_REQUEST_MANDATORY: [u32; 12] = [
     // 5gs registration type, 9.11.3.7
     0, 0, 0, 32_639,
     // ngksi, 9.11.3.32
@@ -111,7 +111,7 @@ static REGISTRATION_REQUEST_MANDATORY: [u32; 12] = [
 ];
 
 // Registration accept, optional rows.
-static REGISTRATION_ACCEPT: [u32; 390] = [
+pub static REGISTRATION_ACCEPT: [u32; 390] = [
     // 5g-guti, 9.11.3.4
     1, 0x77, 0, 0, 0, 3, 0, 14, 14, 255,
     // equivalent plmns, 9.11.3.45
@@ -193,13 +193,13 @@ static REGISTRATION_ACCEPT: [u32; 390] = [
 ];
 
 // Registration accept, mandatory rows.
-static REGISTRATION_ACCEPT_MANDATORY: [u32; 4] = [
+pub static REGISTRATION_ACCEPT_MANDATORY: [u32; 4] = [
     // 5gs registration result, 9.11.3.6
     3, 0, 2, 255,
 ];
 
 // Registration reject, optional rows.
-static REGISTRATION_REJECT: [u32; 60] = [
+pub static REGISTRATION_REJECT: [u32; 60] = [
     // t3346 value, 9.11.2.4
     1, 0x5f, 0, 0, 0, 2, 0, 3, 3, 255,
     // t3502 value, 9.11.2.4
@@ -215,13 +215,13 @@ static REGISTRATION_REJECT: [u32; 60] = [
 ];
 
 // Registration reject, mandatory rows.
-static REGISTRATION_REJECT_MANDATORY: [u32; 4] = [
+pub static REGISTRATION_REJECT_MANDATORY: [u32; 4] = [
     // 5gmm cause, 9.11.3.2
     2, 1, 1, 255,
 ];
 
 // Service request, optional rows.
-static SERVICE_REQUEST: [u32; 40] = [
+pub static SERVICE_REQUEST: [u32; 40] = [
     // uplink data status, 9.11.3.57
     1, 0x40, 0, 0, 0, 2, 0, 4, 34, 255,
     // pdu session status, 9.11.3.44
@@ -233,7 +233,7 @@ static SERVICE_REQUEST: [u32; 40] = [
 ];
 
 // Service request, mandatory rows.
-static SERVICE_REQUEST_MANDATORY: [u32; 12] = [
+pub static SERVICE_REQUEST_MANDATORY: [u32; 12] = [
     // ngksi, 9.11.3.32
     0, 0, 0, 65_535,
     // service type, 9.11.3.50
@@ -243,7 +243,7 @@ static SERVICE_REQUEST_MANDATORY: [u32; 12] = [
 ];
 
 // PDU session establishment request, optional rows.
-static PDU_SESSION_ESTABLISHMENT_REQUEST: [u32; 130] = [
+pub static PDU_SESSION_ESTABLISHMENT_REQUEST: [u32; 130] = [
     // pdu session type, 9.11.4.11
     1, 0x90, 0, 0, 0, 0, 0, 1, 1, 32_639,
     // ssc mode, 9.11.4.16
@@ -273,13 +273,13 @@ static PDU_SESSION_ESTABLISHMENT_REQUEST: [u32; 130] = [
 ];
 
 // PDU session establishment request, mandatory rows.
-static PDU_SESSION_ESTABLISHMENT_REQUEST_MANDATORY: [u32; 4] = [
+pub static PDU_SESSION_ESTABLISHMENT_REQUEST_MANDATORY: [u32; 4] = [
     // integrity protection maximum data rate, 9.11.4.7
     2, 2, 2, 255,
 ];
 
 // PDU session establishment accept, optional rows.
-static PDU_SESSION_ESTABLISHMENT_ACCEPT: [u32; 160] = [
+pub static PDU_SESSION_ESTABLISHMENT_ACCEPT: [u32; 160] = [
     // 5gsm cause, 9.11.4.2
     1, 0x59, 0, 0, 0, 1, 1, 2, 2, 255,
     // pdu address, 9.11.4.10
@@ -315,7 +315,7 @@ static PDU_SESSION_ESTABLISHMENT_ACCEPT: [u32; 160] = [
 ];
 
 // PDU session establishment accept, mandatory rows.
-static PDU_SESSION_ESTABLISHMENT_ACCEPT_MANDATORY: [u32; 16] = [
+pub static PDU_SESSION_ESTABLISHMENT_ACCEPT_MANDATORY: [u32; 16] = [
     // selected pdu session type, 9.11.4.11
     0, 0, 0, 32_639,
     // selected ssc mode, 9.11.4.16
@@ -327,7 +327,7 @@ static PDU_SESSION_ESTABLISHMENT_ACCEPT_MANDATORY: [u32; 16] = [
 ];
 
 // The index of table P.
-static INDEX_P: [u8; 256] = [
+pub static INDEX_P: [u8; 256] = [
     // from 0x00 on
     255, 255, 255, 255, 255, 255, 255, 255, 255, 255, 255, 255, 255, 255, 255, 255,
     // from 0x10 on
@@ -363,7 +363,7 @@ static INDEX_P: [u8; 256] = [
 ];
 
 // The index of registration request.
-static INDEX_REGISTRATION_REQUEST: [u8; 256] = [
+pub static INDEX_REGISTRATION_REQUEST: [u8; 256] = [
     // from 0x00 on
     255, 255, 255, 255, 255, 255, 255, 255, 255, 255, 255, 255, 255, 255, 255, 255,
     // from 0x10 on
@@ -399,7 +399,7 @@ static INDEX_REGISTRATION_REQUEST: [u8; 256] = [
 ];
 
 // The index of registration accept.
-static INDEX_REGISTRATION_ACCEPT: [u8; 256] = [
+pub static INDEX_REGISTRATION_ACCEPT: [u8; 256] = [
     // from 0x00 on
     255, 255, 255, 255, 255, 255, 255, 255, 255, 255, 255, 255, 255, 255, 255, 255,
     // from 0x10 on
@@ -435,7 +435,7 @@ static INDEX_REGISTRATION_ACCEPT: [u8; 256] = [
 ];
 
 // The index of registration reject.
-static INDEX_REGISTRATION_REJECT: [u8; 256] = [
+pub static INDEX_REGISTRATION_REJECT: [u8; 256] = [
     // from 0x00 on
     255, 255, 255, 255, 255, 255, 255, 255, 255, 255, 255, 255, 255, 255, 255, 255,
     // from 0x10 on
@@ -471,7 +471,7 @@ static INDEX_REGISTRATION_REJECT: [u8; 256] = [
 ];
 
 // The index of service request.
-static INDEX_SERVICE_REQUEST: [u8; 256] = [
+pub static INDEX_SERVICE_REQUEST: [u8; 256] = [
     // from 0x00 on
     255, 255, 255, 255, 255, 255, 255, 255, 255, 255, 255, 255, 255, 255, 255, 255,
     // from 0x10 on
@@ -507,7 +507,7 @@ static INDEX_SERVICE_REQUEST: [u8; 256] = [
 ];
 
 // The index of PDU session establishment request.
-static INDEX_PDU_SESSION_ESTABLISHMENT_REQUEST: [u8; 256] = [
+pub static INDEX_PDU_SESSION_ESTABLISHMENT_REQUEST: [u8; 256] = [
     // from 0x00 on
     255, 255, 255, 255, 255, 255, 255, 255, 255, 255, 255, 255, 255, 255, 255, 255,
     // from 0x10 on
@@ -543,7 +543,7 @@ static INDEX_PDU_SESSION_ESTABLISHMENT_REQUEST: [u8; 256] = [
 ];
 
 // The index of PDU session establishment accept.
-static INDEX_PDU_SESSION_ESTABLISHMENT_ACCEPT: [u8; 256] = [
+pub static INDEX_PDU_SESSION_ESTABLISHMENT_ACCEPT: [u8; 256] = [
     // from 0x00 on
     255, 255, 255, 255, 255, 255, 255, 255, 255, 255, 255, 255, 255, 255, 255, 255,
     // from 0x10 on

@@ -118,12 +118,17 @@ pub fn form_at(table: &[u32], place: usize) -> Form
 }
 
 // How many IEIs a row lists; of more than four, and of an unfinished row, those that are there.
+// Of a row that the table has whole, by one test: in a loop over such rows, what any other asks would be computed for each.
 pub fn iei_count(table: &[u32], place: usize) -> usize
     ensures { result ≡ length (ieis (row_at (rows_of table.now) place)) }
 {
+    let count = count_at(table, place) as usize;
+    if place < table.len() / 10 {
+        return count.min(4);
+    }
     let left = table.len().saturating_sub(place.saturating_mul(10));
     let there = left.saturating_sub(1).min(4);
-    there.min(count_at(table, place) as usize)
+    there.min(count)
 }
 
 // One of the four numbers of a row for its IEIs, listed or not; 0 past the fourth.

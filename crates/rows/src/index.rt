@@ -11,5 +11,9 @@ pub fn place_of(index: &[u8], iei: u8) -> Option<usize>
     ensures { place_as result ≡ place_in index.now iei }
 {
     let &place = index.get(usize::from(iei))?;
-    (place != NO_PLACE).then_some(usize::from(place))
+    // An `if`, whose way the processor guesses: of `then_some` it waits for the entry.
+    if place == NO_PLACE {
+        return None;
+    }
+    Some(usize::from(place))
 }

@@ -2,14 +2,17 @@
 // piece goes into the rest of the output, where there is room for it: of a message that was measured there is room for all.
 #![tactic(auto)]
 
-ghost use Rattle.std.specs.Prelude.{◌≡◌, [], ◌∷◌, ℕ, ◌-◌, ◌≤◌, ◌<◌, length, get_or};
+ghost use Rattle.std.specs.Prelude.{◌≡◌, [], ◌∷◌, ℕ, ◌-◌, ◌≤◌, ◌<◌, length, drop, get_or};
 ghost use Rattle.definitions.specs.Basic.{over};
+ghost use Rattle.definitions.specs.Logs.{count_at};
+ghost use Rattle.definitions.proofs.Logs.{entry_of};
+ghost use Rattle.kept.specs.Kept.{count_from};
 ghost use Rattle.placing.specs.Pieces.{lent_of};
 ghost use Rattle.seen.specs.Seen.{set_of};
 ghost use Rattle.walking.specs.Walks.{element_by, added_piece, added_by, elements_from, known_by, place_after, pieces_by, Lays, NextLaid, RunLaid, KnownLaid, WalkLaid};
 
 use copying::put_slice;
-use kept::{Count, entry_like};
+use kept::{Count, entry_at, is_like};
 use putting::put_ie;
 use rows::columns::{form_of, numbers_at, places};
 use rows::index::place_of;
@@ -146,17 +149,12 @@ fn put_octets(out: &mut [u8], octets: &[u8])
     put_slice(out, octets);
 }
 
-// The next kept element, if there is one; behind what is malformed there is none.
-fn put_kept(kept: &[u8], pen: Pen, output: &mut [u8]) -> Pen
-    requires { (pen.kept ≤ length kept.now) × (pen.at ≤ length output.old) }
+// The next kept element, whose count is known.
+fn put_found(kept: &[u8], pen: Pen, found: Count, output: &mut [u8]) -> Pen
+    requires { (entry_of (drop pen.kept kept.now) (count_at (drop pen.kept kept.now)) ≡ count_from found.value found.took) × (pen.kept ≤ length kept.now) × (pen.at ≤ length output.old) }
     ensures { NextLaid kept.now pen output.old result output.new }
 {
-    let Some(Count { value, took }) = entry_like(&kept[pen.kept..], pen.len) else {
-        return Pen {
-            kept: kept.len(),
-            ..pen
-        };
-    };
+    let Count { value, took } = found;
     let mut at = pen.at;
     let start = pen.kept + took;
     let end = start + value;
@@ -170,6 +168,29 @@ fn put_kept(kept: &[u8], pen: Pen, output: &mut [u8]) -> Pen
         len: value,
         ..pen
     }
+}
+
+// The next kept element, if there is one; behind what is malformed there is none. For speed one as long as the last goes a way of its own:
+// joined with any other behind `entry_like`, it took four instructions and a jump more.
+fn put_kept(kept: &[u8], pen: Pen, output: &mut [u8]) -> Pen
+    requires { (pen.kept ≤ length kept.now) × (pen.at ≤ length output.old) }
+    ensures { NextLaid kept.now pen output.old result output.new }
+{
+    let left = &kept[pen.kept..];
+    if is_like(left, pen.len) {
+        let like = Count {
+            value: pen.len,
+            took: 1,
+        };
+        return put_found(kept, pen, like, output);
+    }
+    let Some(found) = entry_at(left) else {
+        return Pen {
+            kept: kept.len(),
+            ..pen
+        };
+    };
+    put_found(kept, pen, found, output)
 }
 
 // A known entry: the added elements of lower place, then its own under the logged IEI; nothing of an IEI without a place.

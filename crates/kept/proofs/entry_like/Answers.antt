@@ -4,4 +4,4 @@ use Rattle.kept.specs.Kept.{count_of}
 use Rattle.kept.proofs.entry_like.Goals as goal
 
 pub returns-then-is_like : goal.returns-then-is_like
-returns-then-is_like c = ap count_of (sym (c.is_like.ensures c.if-is_like.true))
+returns-then-is_like c = ap count_of (sym (c.is_like.ensures.like c.if-is_like.true))
