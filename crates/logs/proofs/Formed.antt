@@ -20,13 +20,6 @@ use Rattle.logs.specs.Checks.{kept_octets, checked_logs, Checked}
 use Rattle.logs.specs.Walks.{with, Keeping}
 use Rattle.logs.specs.declared.MalformedLog.{MalformedLog}
 
--- ---- the order log
-
-pub none-put : {X : Type 0} (x : X) (o : Option (List X)) → is_none o ≡ is_none (put x o)
-unfolding put is_none
-none-put x none = refl
-none-put x (some xs) = refl
-
 -- ---- the kept log
 
 with-put : (n : ℕ) (e : List ℕ) (o : Option (List (List ℕ))) → with (n + length e) o ≡ with n (put e o)

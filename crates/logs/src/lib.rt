@@ -2,14 +2,14 @@
 #![tactic(auto)]
 
 ghost use Rattle.std.specs.Prelude.{◌≡◌, ◌||◌, ◌≤◌};
-ghost use Rattle.definitions.specs.Basic.{is_none, too_long, most_log};
+ghost use Rattle.definitions.specs.Basic.{too_long, most_log};
 ghost use Rattle.definitions.specs.Logs.{order_list, kept_list};
 ghost use Rattle.kept.specs.Kept.{used_of};
 ghost use Rattle.logs.specs.Checks.{kept_octets, checked_logs};
 ghost use Rattle.logs.specs.Walks.{Keeping};
 
 use kept::{Count, MOST_LOG, entry_at, too_long};
-use order::{entry_len, front_at};
+pub use order::order_malformed;
 
 // Which of two logs is malformed.
 #[derive(Clone, Copy, PartialEq, Eq)]
@@ -23,20 +23,6 @@ pub fn logs_long(order: &[u8], order_used: usize, kept: &[u8], kept_used: usize)
     ensures { result ≡ (too_long most_log (used_of order.now order_used) || too_long most_log (used_of kept.now kept_used)) }
 {
     too_long(order, order_used, MOST_LOG) || too_long(kept, kept_used, MOST_LOG)
-}
-
-// Whether an order log is malformed.
-pub fn order_malformed(order: &[u8]) -> bool
-    ensures { result ≡ is_none (order_list order.now) }
-{
-    let mut at = 0;
-    while at < order.len() {
-        let Some(entry) = front_at(&order[at..]) else {
-            return true;
-        };
-        at += entry_len(entry);
-    }
-    false
 }
 
 // Where a walk over a kept log is, and the octets of the elements before it.

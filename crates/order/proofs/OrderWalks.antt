@@ -7,7 +7,7 @@ use mathlib.Core.List.{List, [], ◌∷◌}
 use mathlib.Core.Option.{Option, none, some}
 use lib.ListN.{length, take, drop}
 use Rattle.std.specs.Prelude.{Option as Answered, Some, None, Ok}
-use Rattle.definitions.specs.Basic.{answer, content, most_log}
+use Rattle.definitions.specs.Basic.{is_none, answer, content, most_log}
 use Rattle.definitions.specs.Logs.{Placed, put, order_list, order_get}
 use Rattle.definitions.proofs.Orders.{order_front}
 use Rattle.definitions.proofs.Logs.{not-long, asking-done, asking-bad}
@@ -60,3 +60,9 @@ get-bad log used k h g e = sym (asking-bad (used_of log used) _ 1 _ (not-long mo
 pub got-found : (o : Answered Remembered) → entry_as (Ok o) ≡ answer 0 (wanted_as o)
 got-found None = refl
 got-found (Some p) = refl
+
+-- a log is malformed where what is left of it is
+pub none-put : {X : Type 0} (x : X) (o : Option (List X)) → is_none o ≡ is_none (put x o)
+unfolding put is_none
+none-put x none = refl
+none-put x (some xs) = refl

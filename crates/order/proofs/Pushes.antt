@@ -1,16 +1,14 @@
 -- What a push says and leaves, by each of document 01's checks in their order.
--- What the walk over the used octets told decides 11; the numbers compared are those that code measures.
+-- Whether the used octets list entries decides 11; the numbers compared are those that code measures.
 use Prim.Native.Nat.{ℕ, ◌+◌, ◌≤◌, ◌<◌}
-use mathlib.Core.Bool.{true}
+use mathlib.Core.Bool.{true, false}
 use mathlib.Core.List.{List, [], ◌∷◌}
-use mathlib.Core.Option.{none, some}
 use mathlib.Core.Path.{◌≡◌, refl}
 use lib.ListN.{length, take}
-use Rattle.definitions.specs.Basic.{Answer, answer, content, too_long, most_log, over_at}
+use Rattle.definitions.specs.Basic.{is_none, Answer, answer, content, too_long, most_log, over_at}
 use Rattle.definitions.specs.Logs.{Placed, order_entry, order_list, order_push}
-use Rattle.definitions.proofs.LogWalks.{order_log, told-bad, told-log, push-used, push-over, push-bad, push-full, push-done}
+use Rattle.definitions.proofs.LogWalks.{push-used, push-over, push-bad, push-full, push-done}
 use Rattle.kept.specs.Kept.{used_of}
-use Rattle.order.specs.Order.{tell, start_walk}
 
 module _ (log : List ℕ) (used : ℕ) (p : Placed) where
   abbrev pub Leaves : Answer → List ℕ → Type 0
@@ -27,15 +25,15 @@ module _ (log : List ℕ) (used : ℕ) (p : Placed) where
     leaves-over h = push-over _ _ _ _ 1 3 _ e h
 
     module _ (h : used ≤ length log) (g : used + n ≤ 131070) where
-      pub leaves-bad : none ≡ tell start_walk 0 (order_list (take used log)) → Leaves (answer 11 (1 ∷ [])) log
+      pub leaves-bad : is_none (order_list (take used log)) ≡ true → Leaves (answer 11 (1 ∷ [])) log
       unfolding order_push content
-      leaves-bad t = push-bad _ _ _ _ 1 3 _ e h refl g (told-bad order_log 0 _ t)
+      leaves-bad t = push-bad _ _ _ _ 1 3 _ e h refl g t
 
-      module _ {r : List ℕ} (t : some r ≡ tell start_walk 0 (order_list (take used log))) where
+      module _ (t : is_none (order_list (take used log)) ≡ false) where
         pub leaves-full : length log < used + n → Leaves (answer 2 (3 ∷ [])) log
         unfolding order_push content
-        leaves-full f = push-full _ _ _ _ 1 3 _ e h refl g (told-log order_log 0 _ t).good f
+        leaves-full f = push-full _ _ _ _ 1 3 _ e h refl g t f
 
         pub leaves-done : used + n ≤ length log → Leaves (answer 0 ((used + n) ∷ [])) (over_at used (order_entry p) log)
         unfolding order_push content
-        leaves-done f = push-done _ _ _ _ 1 3 _ e h refl g (told-log order_log 0 _ t).good f
+        leaves-done f = push-done _ _ _ _ 1 3 _ e h refl g t f

@@ -4,6 +4,7 @@
 #![tactic(auto)]
 
 ghost use Rattle.std.specs.Prelude.{◌≡◌, ◌≤◌, ◌<◌, length, get_or, drop, [], ◌∷◌};
+ghost use Rattle.definitions.specs.Basic.{is_none};
 ghost use Rattle.definitions.specs.Logs.{order_entry, order_list, order_push, order_get};
 ghost use Rattle.definitions.proofs.Orders.{order_front, aside_by};
 ghost use Rattle.kept.specs.Kept.{pushed_as, used_of, if_room};
@@ -100,16 +101,33 @@ fn aside_entry(x: u8) -> Placed
     }
 }
 
-// The entry at the front of a log. Whether its octet is 0 is a test of its own, by which the compiled code goes on to the next entry: of a
-// match over all octets it would wait for the entry to know where that begins.
+// The entry at the front of a log. What begins with 0 goes a way of its own, and its length is asked there, so that the compiled code goes on to
+// the next entry without waiting for this one.
 pub fn front_at(s: &[u8]) -> Option<Placed>
     ensures { front_as result ≡ order_front s.now }
 {
-    match *s {
-        [0, iei, ..] => Some(Placed::Known(iei)),
-        [x, ..] if 0 < x && x <= 4 => Some(aside_entry(x)),
+    match s {
+        [0, rest @ ..] => match rest {
+            [iei, ..] => Some(Placed::Known(*iei)),
+            [] => None,
+        },
+        [x, ..] if *x <= 4 => Some(aside_entry(*x)),
         _ => None,
     }
+}
+
+// Whether an order log is malformed.
+pub fn order_malformed(order: &[u8]) -> bool
+    ensures { result ≡ is_none (order_list order.now) }
+{
+    let mut at = 0;
+    while at < order.len() {
+        let Some(entry) = front_at(&order[at..]) else {
+            return true;
+        };
+        at += entry_len(entry);
+    }
+    false
 }
 
 // Past the entry at a position; the one wanted is remembered.
@@ -163,7 +181,9 @@ pub fn order_push(log: &mut [u8], used: usize, entry: Placed) -> Result<usize, P
     if after > MOST_LOG {
         return Err(PushError::TooLong);
     }
-    walk_order(content, 0).ok_or(PushError::Malformed)?;
+    if order_malformed(content) {
+        return Err(PushError::Malformed);
+    }
     if after > log.len() {
         return Err(PushError::NoRoom);
     }

@@ -1,7 +1,6 @@
 -- `past_like` passes an entry a turn, as `kept_len` does, whose length is known before its count is read.
 -- The measure is what is left of the log.
 use native.Mathlib.Omega.{arith}
-use mathlib.Core.Path.{sym, ◌∙◌}
 use Rattle.logs.proofs.Formed.{keeping-like}
 use Rattle.logs.proofs.past_like.Goals as goal
 

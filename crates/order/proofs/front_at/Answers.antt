@@ -3,27 +3,25 @@
 use native.Mathlib.Omega.{arith}
 use mathlib.Core.Path.{refl, ap, sym, ◌∙◌}
 use mathlib.Core.Option.{some}
-use Rattle.definitions.proofs.Orders.{front-empty, front-known, front-over, front-aside}
-use Rattle.order.proofs.Entries.{stands, front-short, front-not}
+use lib.ListN.{length-take, length-drop}
+use lib.Seq.{get_or-drop}
+use Rattle.definitions.proofs.Lists.{to_end}
+use Rattle.definitions.proofs.Orders.{front-empty, front-alone, front-known, front-aside, front-over}
 use Rattle.order.proofs.front_at.Goals as goal
-use Rattle.order.proofs.front_at.Goals.{then-s-lt2, else-s-lt2+in_default-1}
 
-pub returns-in-0 : goal.returns-in-0
-returns-in-0 c = let l = c.in-0.len_at_least in sym (front-known c.args.s.now (omega arith) (omega arith))
+pub returns-in-empty : goal.returns-in-empty
+returns-in-empty c = let l = simp (length-take, length-drop) at c.in-empty.len_below in sym (front-alone c.args.s.now (omega arith) (omega arith))
+
+pub returns-in-len1-up-rest : goal.returns-in-len1-up-rest
+returns-in-len1-up-rest c =
+    let l = simp (length-take, length-drop) at c.in-len1-up-rest.len_at_least in
+    rw (to_end 1 c.args.s.now, get_or-drop 1 c.args.s.now 0 0) (sym (front-known c.args.s.now (omega arith) (omega arith)))
 
 pub returns-in-len1-up : goal.returns-in-len1-up
-returns-in-len1-up c =
-    let h = stands c.args.s.now (omega arith) in ap some c.aside_entry.ensures ∙ sym (front-aside c.args.s.now _ h refl (omega arith) (omega arith))
+returns-in-len1-up c = ap some c.aside_entry.ensures ∙ sym (front-aside c.args.s.now _ (omega arith) refl (omega arith) (omega arith))
 
 pub returns-in_default : goal.returns-in_default
 returns-in_default c = sym (front-empty c.args.s.now (omega arith))
 
 pub returns-in_default-2 : goal.returns-in_default-2
-returns-in_default-2 c = let h = stands c.args.s.now (omega arith) in sym (front-over c.args.s.now h (omega arith))
-
-pub returns-in_default-3 : goal.returns-in_default-3
-returns-in_default-3 c =
-    elim c.in-len1-up-1.branch [
-      | then-s-lt2 w ↦ sym (front-short c.args.s.now (grind (arith, w.if-s-lt2-1.true)) (omega arith))
-      | else-s-lt2+in_default-1 w ↦ sym (front-not c.args.s.now (omega arith) (λ e. omega arith) (λ h. omega arith))
-    ]
+returns-in_default-2 c = sym (front-over c.args.s.now (omega arith) (omega arith))

@@ -1,5 +1,5 @@
 -- `order_push` takes document 01's checks in their order, each with its law, and then lends the rest of the log for the entry.
--- What the walk over the used octets told decides 11; the numbers compared are the definition's.
+-- Whether the used octets are malformed decides 11; the numbers compared are the definition's.
 use Prim.Native.Nat.{◌-◌}
 use native.Mathlib.Omega.{arith}
 use mathlib.Core.Bool.{false≢true}
@@ -12,7 +12,7 @@ use Rattle.definitions.proofs.LogLaws.{order-room}
 use Rattle.definitions.proofs.Lists.{lent-over}
 use Rattle.kept.specs.Kept.{used_of, push_error}
 use Rattle.kept.specs.declared.PushError.{PushError}
-use Rattle.kept.proofs.Asked.{long-log, walked, not-walked}
+use Rattle.kept.proofs.Asked.{long-log}
 use Rattle.kept.proofs.Entries.{if-room}
 use Rattle.order.specs.Order.{placed_as}
 use Rattle.order.proofs.Pushes.{leaves-used, leaves-over, leaves-bad, leaves-full, leaves-done}
@@ -38,25 +38,18 @@ returns-then-after-gt-MOST_LOG c =
     let l = leaves-over a.log.now a.used (placed_as a.entry) c.entry_len.ensures c.if-after-gt-MOST_LOG.true in
     record { said = l.0; log_after = l.1 }
 
-pub returns-in_err-ok_or : goal.returns-in_err-ok_or
-returns-in_err-ok_or c =
+pub returns-then-order_malformed : goal.returns-then-order_malformed
+returns-then-order_malformed c =
     let a = c.args in
     let o = c.in_ok-content.ensures in
-    let n = not-walked PushError.Malformed c.walk_order.result (sym c.in_err-ok_or.was ∙ c.ok_or.ensures.value) in
-    let n1 = n.1 in
-    let p = err_from_is_err_and c.from_residual-in_err-ok_or.result c.from_residual-in_err-ok_or.ensures.1 in
-    let p1 = p.1 in
-    let p2 = p.2 in
-    let q : c.from_residual-in_err-ok_or.result ≡ Err PushError.Malformed = cc in
-    let l = leaves-bad a.log.now a.used (placed_as a.entry) c.entry_len.ensures (o.short.0 refl).0 c.if-after-gt-MOST_LOG.false (rw (n.0, o.content) at c.walk_order.ensures) in
-    record { said = rw q l.0; log_after = l.1 }
+    let l = leaves-bad a.log.now a.used (placed_as a.entry) c.entry_len.ensures (o.short.0 refl).0 c.if-after-gt-MOST_LOG.false (rw o.content at (sym c.order_malformed.ensures ∙ c.if-order_malformed.true)) in
+    record { said = l.0; log_after = l.1 }
 
 pub returns-then-after-log : goal.returns-then-after-log
 returns-then-after-log c =
     let a = c.args in
     let o = c.in_ok-content.ensures in
-    let w = walked PushError.Malformed c.walk_order.result (sym c.in_ok-ok_or.was ∙ c.ok_or.ensures.value) in
-    let l = leaves-full a.log.now a.used (placed_as a.entry) c.entry_len.ensures (o.short.0 refl).0 c.if-after-gt-MOST_LOG.false (rw (w, o.content) at c.walk_order.ensures) c.if-after-log.true in
+    let l = leaves-full a.log.now a.used (placed_as a.entry) c.entry_len.ensures (o.short.0 refl).0 c.if-after-gt-MOST_LOG.false (rw o.content at (sym c.order_malformed.ensures ∙ c.if-order_malformed.false)) c.if-after-log.true in
     record { said = l.0; log_after = l.1 }
 
 pub returns : goal.returns
@@ -67,6 +60,5 @@ returns c =
     let e = order_entry (placed_as a.entry) in
     let n = c.entry_len.ensures in
     let d = take (length a.log.now - a.used) (drop a.used a.log.now) in
-    let w = walked PushError.Malformed c.walk_order.result (sym c.in_ok-ok_or.was ∙ c.ok_or.ensures.value) in
-    let l = leaves-done a.log.now a.used (placed_as a.entry) n s.0 c.if-after-gt-MOST_LOG.false (rw (w, o.content) at c.walk_order.ensures) c.if-after-log.false in
+    let l = leaves-done a.log.now a.used (placed_as a.entry) n s.0 c.if-after-gt-MOST_LOG.false (rw o.content at (sym c.order_malformed.ensures ∙ c.if-order_malformed.false)) c.if-after-log.false in
     record { said = l.0; log_after = rw (c.put_placed.ensures, if-room e d (simp (length-take, length-drop) (omega arith))) (lent-over a.used e a.log.now s.0) ∙ l.1 }

@@ -11,9 +11,9 @@ use Rattle.definitions.proofs.Lists.{to_end}
 use Rattle.definitions.proofs.LogSteps.{OrderEntry, order-split, order-stop}
 use Rattle.definitions.proofs.LogWalks.{left-begin, left_step, left-stop, left_end}
 use Rattle.order.specs.Order.{placed_as, front_as}
-use Rattle.logs.proofs.Formed.{none-put}
-use Rattle.logs.proofs.order_malformed.Goals as goal
-use Rattle.logs.proofs.order_malformed.Goals.{In-Some}
+use Rattle.order.proofs.OrderWalks.{none-put}
+use Rattle.order.proofs.order_malformed.Goals as goal
+use Rattle.order.proofs.order_malformed.Goals.{In-Some}
 
 pub loop-at-init : goal.loop-at-init
 loop-at-init c = left-begin order_list _ _ refl

@@ -5,7 +5,7 @@ use lib.ListN.{length}
 use Rattle.definitions.specs.Basic.{is_none}
 use Rattle.definitions.specs.Logs.{order_list}
 use Rattle.definitions.proofs.LogWalks.{Left}
-use Rattle.logs.proofs.order_malformed.Given as goal
+use Rattle.order.proofs.order_malformed.Given as goal
 
 abbrev pub invariant-loop-at : goal.invariant-loop-at
 invariant-loop-at l = Left order_list l.order (is_none (order_list l.order)) l.at is_none
