@@ -1,4 +1,4 @@
-// Whether the logs are too long, and whether a log is well formed: each by itself, as writing asks, and both at once, as the findings do.
+// Whether the logs are too long, and whether a log is well formed: each by itself, as writing and setting ask, and both at once, as the findings do.
 #![tactic(auto)]
 
 ghost use Rattle.std.specs.Prelude.{◌≡◌, ◌||◌, ◌≤◌};

@@ -1,5 +1,5 @@
 -- A walk over an order log, as the walk over either log: the entry that is remembered stands for what is found.
--- Then the question by what a whole walk tells.
+-- Then the question by what a whole walk tells, and whether there is a list at all.
 use Prim.Native.Nat.{ℕ, ◌≤◌, ◌<◌}
 use native.Mathlib.Omega.{arith}
 use mathlib.Core.Path.{◌≡◌, refl, sym}
@@ -61,7 +61,7 @@ pub got-found : (o : Answered Remembered) → entry_as (Ok o) ≡ answer 0 (want
 got-found None = refl
 got-found (Some p) = refl
 
--- a log is malformed where what is left of it is
+-- an entry in front makes no list where there is none, and leaves one where there is one
 pub none-put : {X : Type 0} (x : X) (o : Option (List X)) → is_none o ≡ is_none (put x o)
 unfolding put is_none
 none-put x none = refl

@@ -101,8 +101,8 @@ fn aside_entry(x: u8) -> Placed
     }
 }
 
-// The entry at the front of a log. What begins with 0 goes a way of its own, and its length is asked there, so that the compiled code goes on to
-// the next entry without waiting for this one.
+// The entry at the front of a log. What begins with 0 goes a way of its own, and only there is asked what is left behind it: so the compiled code
+// goes on to the next entry without waiting for this one.
 pub fn front_at(s: &[u8]) -> Option<Placed>
     ensures { front_as result ≡ order_front s.now }
 {

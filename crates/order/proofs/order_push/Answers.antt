@@ -1,13 +1,15 @@
 -- `order_push` takes document 01's checks in their order, each with its law, and then lends the rest of the log for the entry.
 -- Whether the used octets are malformed decides 11; the numbers compared are the definition's.
-use Prim.Native.Nat.{◌-◌}
+use Prim.Native.Nat.{ℕ, ◌-◌}
 use native.Mathlib.Omega.{arith}
 use mathlib.Core.Bool.{false≢true}
+use mathlib.Core.List.{List}
 use mathlib.Core.Path.{◌≡◌, refl, ap, sym, ◌∙◌}
 use lib.ListN.{length, take, drop, length-take, length-drop}
 use Rattle.std.specs.Prelude.{Err}
 use Rattle.std.proofs.lemmas.Result.{err_from_is_err_and}
-use Rattle.definitions.specs.Logs.{order_entry}
+use Rattle.definitions.specs.Basic.{is_none}
+use Rattle.definitions.specs.Logs.{order_entry, order_list}
 use Rattle.definitions.proofs.LogLaws.{order-room}
 use Rattle.definitions.proofs.Lists.{lent-over}
 use Rattle.kept.specs.Kept.{used_of, push_error}
@@ -29,6 +31,10 @@ returns-in_err-content c =
     let l = leaves-used a.log.now a.used (placed_as a.entry) (long-log 131070 (used_of a.log.now a.used) (λ h. false≢true (e.short.1 h))) in
     record { said = rw q l.0; log_after = l.1 }
 
+-- the octets that are judged are those that are used
+among-used : {s u : List ℕ} → s ≡ u → is_none (order_list u) ≡ is_none (order_list s)
+among-used e = sym (ap (λ (x : List ℕ). is_none (order_list x)) e)
+
 pub overflow_add-after : goal.overflow_add-after
 overflow_add-after c = let s = c.in_ok-content.ensures.short.0 refl in omega (arith, c.entry_len.ensures, order-room (placed_as c.args.entry))
 
@@ -42,14 +48,14 @@ pub returns-then-order_malformed : goal.returns-then-order_malformed
 returns-then-order_malformed c =
     let a = c.args in
     let o = c.in_ok-content.ensures in
-    let l = leaves-bad a.log.now a.used (placed_as a.entry) c.entry_len.ensures (o.short.0 refl).0 c.if-after-gt-MOST_LOG.false (rw o.content at (sym c.order_malformed.ensures ∙ c.if-order_malformed.true)) in
+    let l = leaves-bad a.log.now a.used (placed_as a.entry) c.entry_len.ensures (o.short.0 refl).0 c.if-after-gt-MOST_LOG.false (among-used o.content ∙ sym c.order_malformed.ensures ∙ c.if-order_malformed.true) in
     record { said = l.0; log_after = l.1 }
 
 pub returns-then-after-log : goal.returns-then-after-log
 returns-then-after-log c =
     let a = c.args in
     let o = c.in_ok-content.ensures in
-    let l = leaves-full a.log.now a.used (placed_as a.entry) c.entry_len.ensures (o.short.0 refl).0 c.if-after-gt-MOST_LOG.false (rw o.content at (sym c.order_malformed.ensures ∙ c.if-order_malformed.false)) c.if-after-log.true in
+    let l = leaves-full a.log.now a.used (placed_as a.entry) c.entry_len.ensures (o.short.0 refl).0 c.if-after-gt-MOST_LOG.false (among-used o.content ∙ sym c.order_malformed.ensures ∙ c.if-order_malformed.false) c.if-after-log.true in
     record { said = l.0; log_after = l.1 }
 
 pub returns : goal.returns
@@ -60,5 +66,5 @@ returns c =
     let e = order_entry (placed_as a.entry) in
     let n = c.entry_len.ensures in
     let d = take (length a.log.now - a.used) (drop a.used a.log.now) in
-    let l = leaves-done a.log.now a.used (placed_as a.entry) n s.0 c.if-after-gt-MOST_LOG.false (rw o.content at (sym c.order_malformed.ensures ∙ c.if-order_malformed.false)) c.if-after-log.false in
+    let l = leaves-done a.log.now a.used (placed_as a.entry) n s.0 c.if-after-gt-MOST_LOG.false (among-used o.content ∙ sym c.order_malformed.ensures ∙ c.if-order_malformed.false) c.if-after-log.false in
     record { said = l.0; log_after = rw (c.put_placed.ensures, if-room e d (simp (length-take, length-drop) (omega arith))) (lent-over a.used e a.log.now s.0) ∙ l.1 }
