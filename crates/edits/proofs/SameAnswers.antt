@@ -6,7 +6,7 @@ use mathlib.Core.List.{List, [], ◌∷◌}
 use lib.ListN.{get_or}
 use lib.Dec.{eqb}
 use Rattle.definitions.specs.Basic.{pick, Answer}
-use Rattle.std.specs.Prelude.{Option as Answered, Some, None, Result, Ok, Err}
+use Rattle.std.specs.Prelude.{Some, None, Ok, Err}
 use Rattle.edits.specs.Edits.{Edited, edited_as}
 use Rattle.edits.specs.declared.EditError.{EditError}
 

@@ -7,7 +7,6 @@ use mathlib.Core.Bool.{not}
 use Rattle.definitions.specs.Basic.{is_none}
 use Rattle.definitions.specs.Rows.{rows_of, first_iei}
 use Rattle.definitions.specs.Values.{first_from}
-use Rattle.definitions.proofs.TableLaws.{few-places}
 use Rattle.seen.specs.Seen.{set_of}
 use Rattle.rows.specs.declared.columns.Numbers.{Numbers}
 use Rattle.rows.proofs.WholeRows.{whole-rows}

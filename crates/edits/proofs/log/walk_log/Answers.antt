@@ -8,7 +8,7 @@ use Rattle.definitions.specs.Rows.{rows_of, first_iei}
 use Rattle.definitions.proofs.Orders.{order_front}
 use Rattle.definitions.proofs.Lists.{to_end}
 use Rattle.definitions.proofs.LogSteps.{OrderEntry, order-split, order-never}
-use Rattle.order.specs.Order.{placed_as, front_as}
+use Rattle.order.specs.Order.{placed_as}
 use Rattle.rows.specs.declared.columns.Numbers.{Numbers}
 use Rattle.rows.proofs.WholeRows.{whole-rows}
 use Rattle.edits.proofs.Logged.{walking-begun, walking-step, walking-ended}
